@@ -1,0 +1,4 @@
+pub mod Trees
+pub mod Values
+pub mod Scope
+pub mod Size

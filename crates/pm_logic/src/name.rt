@@ -1,0 +1,46 @@
+//! Names of predicates and statements.
+
+ghost use Rattle.std.specs.Prelude.{◌≡◌, IfOk};
+
+use crate::list::{Bytes, Memory};
+use std::alloc::Global;
+use std::marker::Model;
+
+/// An identifier, which contracts see as its bytes.
+#[derive(Debug, Drop)]
+pub struct Name {
+    text: Bytes,
+}
+
+impl Model for Name {
+    ghost use Rattle.std.specs.Prelude.{List, ℕ};
+
+    ghost Value = { List ℕ };
+
+    ghost view = { λ it. it.text };
+}
+
+impl Name {
+    /// The name that is spelled so.
+    pub fn new(alloc: Global, text: &str) -> Result<Name, Memory>
+        ensures { IfOk result (λ name. name ≡ text.now) }
+    {
+        let text = Bytes::from_slice(alloc, text.as_bytes())?;
+        Ok(Name { text })
+    }
+
+    /// The bytes of its spelling.
+    pub fn bytes(&self) -> &[u8]
+        ensures { result.now ≡ self.now }
+    {
+        self.text.as_slice()
+    }
+}
+
+/// The same name once more.
+pub fn copy_name(alloc: Global, name: &Name) -> Result<Name, Memory>
+    ensures { IfOk result (λ copy. copy ≡ name.now) }
+{
+    let text = Bytes::from_slice(alloc, name.bytes())?;
+    Ok(Name { text })
+}
