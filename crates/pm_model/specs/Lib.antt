@@ -1,0 +1,4 @@
+pub mod Resource
+pub mod Forcing
+pub mod Entailment
+pub mod Laws
