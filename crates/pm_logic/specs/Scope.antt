@@ -29,3 +29,7 @@ abbrev pub body_of : List Pred → ℕ → Formula
 body_of [] p = Fact True
 body_of (q ∷ preds) zero = q.body
 body_of (q ∷ preds) (suc p) = body_of preds p
+
+-- the table of no predicates
+abbrev pub no_predicates : Preds
+no_predicates = record { list = [] }

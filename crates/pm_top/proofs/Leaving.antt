@@ -1,0 +1,68 @@
+-- What a run leaves at the sink.
+use Rattle.std.proofs.Common.{◌≡◌, ◌⊎◌, ℕ, ◌≤◌, ◌<◌, List, [], length, refl, sym, ◌∙◌, ap, subst, Option, Some, None, inl, inr}
+use Rattle.std.specs.Io.KnownBytes.{Appends, Keeps}
+use Rattle.pm_top.specs.Taken.{TakesAll, HasMoreThan, AppendsFront}
+use Rattle.pm_top.specs.declared.command.Command.{Command}
+use Rattle.pm_top.specs.declared.command.Command.TheVariants.{Check}
+use Rattle.pm_top.specs.declared.status.Status.{Status}
+use Rattle.pm_top.specs.declared.status.Status.TheVariants as status
+use Rattle.pm_top.specs.Answers.{too_long_line, usage_line, Checks, too_long, IsOfInput, IfTold, Defines}
+use Rattle.pm_top.specs.Leaves.{IsAnswer, Writes, WritesFront, Leaves, IsDefined}
+use Rattle.pm_top.proofs.Answering.{one_answer}
+
+-- ---- what is defined
+
+pub defines_long : (input : Option (List ℕ)) → HasMoreThan input 16777216 → Defines (Some Check) input status.TooLong too_long_line
+defines_long None h = (tt, tt)
+defines_long (Some bytes) h = (tt, too_long h)
+
+pub defines_check : (input left : Option (List ℕ)) (bytes : List ℕ) (s : Status) (text : List ℕ) → TakesAll input left bytes → IsOfInput s → Checks bytes s text → Defines (Some Check) input s text
+defines_check None left bytes s text h i a = (i, tt)
+defines_check (Some xs) left bytes s text h i a = (i, subst (λ (b : List ℕ). Checks b s text) (sym h.0) a)
+
+-- ---- what the writer of a line leaves
+
+pub leaves : (command : Option Command) (input old new : Option (List ℕ)) (s r : Status) (text : List ℕ) → Defines command input s text → ¬ (r ≡ status.ReadFault) → (IsAnswer r → (r ≡ s) × Appends old new text) → ((IsAnswer r → ⊥) → AppendsFront old new text) → Leaves command input old new r
+leaves command input old new s r text d nr whole front = go r nr whole front
+  where
+    written : (q : Status) → (q ≡ s) × Appends old new text → Writes command input q old new
+    written q w = record { text = text; defined = subst (λ (x : Status). Defines command input x text) (sym w.0) d; appended = w.1 }
+
+    go : (q : Status) → ¬ (q ≡ status.ReadFault) → (IsAnswer q → (q ≡ s) × Appends old new text) → ((IsAnswer q → ⊥) → AppendsFront old new text) → Leaves command input old new q
+    go status.ReadFault nr whole front = absurd (nr refl)
+    go status.WriteFault nr whole front = record { s = s; text = text; defined = d; appended = front (λ h. h) }
+    go status.Memory nr whole front = inr (record { s = s; text = text; defined = d; appended = front (λ h. h) })
+    go status.Done nr whole front = written status.Done (whole tt)
+    go status.Refused nr whole front = written status.Refused (whole tt)
+    go status.Unreadable nr whole front = written status.Unreadable (whole tt)
+    go status.Usage nr whole front = written status.Usage (whole tt)
+    go status.TooLong nr whole front = written status.TooLong (whole tt)
+
+-- ---- the answer is the one that is defined
+
+same_defined : (command : Option Command) (bytes : List ℕ) (s r : Status) (text line : List ℕ) → Defines command (Some bytes) s text → Defines command (Some bytes) r line → (s ≡ r) × (text ≡ line)
+same_defined None bytes s r text line d e = (d.0 ∙ sym e.0, d.1 ∙ sym e.1)
+same_defined (Some Check) bytes s r text line d e = one_answer bytes s r text line d.1 e.1
+
+writes_of : (command : Option Command) (input old new : Option (List ℕ)) (r : Status) → IsAnswer r → Leaves command input old new r → Writes command input r old new
+writes_of command input old new status.Done a w = w
+writes_of command input old new status.Refused a w = w
+writes_of command input old new status.Unreadable a w = w
+writes_of command input old new status.Usage a w = w
+writes_of command input old new status.TooLong a w = w
+writes_of command input old new status.ReadFault a w = absurd a
+writes_of command input old new status.WriteFault a w = absurd a
+writes_of command input old new status.Memory a w = absurd a
+
+pub is_defined : (command : Option Command) (input old new : Option (List ℕ)) (r : Status) → Leaves command input old new r → IsDefined command input old new r
+is_defined command input old new r l = record {
+  only = λ bytes is s text d a.
+      let w = writes_of command input old new r a l in
+      let told : Defines command (Some bytes) r w.text = subst (λ (i : Option (List ℕ)). Defines command i r w.text) is w.defined in
+      let same = same_defined command bytes r s w.text text told (subst (λ (i : Option (List ℕ)). Defines command i s text) is d) in
+      (same.0, subst (λ (t : List ℕ). Appends old new t) same.1 w.appended);
+}
+
+-- what a run of this command leaves
+pub at_command : (command other : Option Command) (input old new : Option (List ℕ)) (r : Status) → other ≡ command → Leaves command input old new r → Leaves other input old new r
+at_command command other input old new r e l = subst (λ (c : Option Command). Leaves c input old new r) (sym e) l

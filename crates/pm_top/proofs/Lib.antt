@@ -1,0 +1,17 @@
+pub mod Accepting
+pub mod Again
+pub mod AgainLines
+pub mod Answering
+pub mod Found
+pub mod FoundLines
+pub mod Fronts
+pub mod Grown
+pub mod Judging
+pub mod Leaving
+pub mod Levels
+pub mod NameSets
+pub mod Numbers
+pub mod Rules
+pub mod Sent
+pub mod Sound
+pub mod Steps

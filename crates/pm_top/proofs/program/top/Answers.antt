@@ -1,0 +1,25 @@
+use Rattle.std.proofs.Common.{◌≡◌, None, Some, sym, ◌∙◌, ap, subst, refl, rules, Option}
+use Rattle.pm_top.specs.Answers.{command_of, usage_line}
+use Rattle.pm_top.specs.declared.command.Command.{Command}
+use Rattle.pm_top.specs.declared.command.Command.TheVariants.{Check}
+use Rattle.pm_top.specs.declared.status.Status.TheVariants as status
+use Rattle.pm_top.proofs.Leaving.{leaves, at_command, is_defined}
+use Rattle.pm_top.proofs.program.top.Goals as goal
+
+only : (command : Command) → command ≡ Check
+only Check = refl
+
+pub returns-in-None-clause-output : goal.returns-in-None-clause-output
+returns-in-None-clause-output g c =
+    let none : command_of c.args.words.now.items ≡ None = search rules in
+    at_command None _ _ _ _ _ none (leaves None _ _ _ status.Usage _ usage_line (refl, refl) c.say.ensures.not_read c.say.ensures.whole c.say.ensures.front)
+
+pub returns-in-None-clause-defined : goal.returns-in-None-clause-defined
+returns-in-None-clause-defined g c =
+    let none : command_of c.args.words.now.items ≡ None = search rules in
+    is_defined _ _ _ _ _ (at_command None _ _ _ _ _ none (leaves None _ _ _ status.Usage _ usage_line (refl, refl) c.say.ensures.not_read c.say.ensures.whole c.say.ensures.front))
+
+pub returns-in-Some-Check-clause-defined : goal.returns-in-Some-Check-clause-defined
+returns-in-Some-Check-clause-defined g c =
+    let check : command_of c.args.words.now.items ≡ Some Check = ap command_of (sym c.as_slice.ensures.value) ∙ sym c.command_of.ensures ∙ c.in-Some-Check.is ∙ ap Some (only c.in-Some-Check.field-0) in
+    is_defined _ _ _ _ _ (at_command (Some Check) _ _ _ _ _ check c.run_check.ensures.output)

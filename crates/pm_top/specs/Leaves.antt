@@ -1,0 +1,48 @@
+-- What a run leaves: at the sink by its status, and of the source.
+use Rattle.std.specs.Prelude.{◌≡◌, ◌⊎◌, ℕ, List, [], Option, Some, None, IsSome, ⊤}
+use Rattle.std.specs.Io.KnownBytes.{Appends, Keeps}
+use Rattle.pm_top.specs.Taken.{AppendsFront}
+use Rattle.pm_top.specs.declared.command.Command.{Command}
+use Rattle.pm_top.specs.declared.status.Status.{Status}
+use Rattle.pm_top.specs.declared.status.Status.TheVariants as status
+use Rattle.pm_top.specs.Answers.{Defines}
+
+-- a status that the words and the input alone decide
+abbrev pub IsAnswer : Status → Type 0
+IsAnswer status.Done = ⊤
+IsAnswer status.Refused = ⊤
+IsAnswer status.Unreadable = ⊤
+IsAnswer status.Usage = ⊤
+IsAnswer status.TooLong = ⊤
+IsAnswer status.ReadFault = ⊥
+IsAnswer status.WriteFault = ⊥
+IsAnswer status.Memory = ⊥
+
+-- the whole line of this answer was written
+pub record Writes (command : Option Command) (input : Option (List ℕ)) (s : Status) (old new : Option (List ℕ)) : Type 0 where
+  pub text : List ℕ
+  pub defined : Defines command input s text
+  pub appended : Appends old new text
+
+-- a front of the line of some answer was written
+pub record WritesFront (command : Option Command) (input : Option (List ℕ)) (old new : Option (List ℕ)) : Type 0 where
+  pub s : Status
+  pub text : List ℕ
+  pub defined : Defines command input s text
+  pub appended : AppendsFront old new text
+
+-- what the sink holds behind each status
+abbrev pub Leaves : Option Command → Option (List ℕ) → Option (List ℕ) → Option (List ℕ) → Status → Type 0
+Leaves command input old new status.ReadFault = IsSome command × Keeps old new
+Leaves command input old new status.WriteFault = WritesFront command input old new
+Leaves command input old new status.Memory = Keeps old new ⊎ WritesFront command input old new
+Leaves command input old new s = Writes command input s old new
+
+-- where the input is told: an answer is the one that is defined, and its line was written whole
+pub record IsDefined (command : Option Command) (input : Option (List ℕ)) (old new : Option (List ℕ)) (r : Status) : Type 0 where
+  pub only : (bytes : List ℕ) → input ≡ Some bytes → (s : Status) (text : List ℕ) → Defines command input s text → IsAnswer r → (r ≡ s) × Appends old new text
+
+-- where the source tells, it is at its end
+abbrev pub IsReadToEnd : Option (List ℕ) → Option (List ℕ) → Type 0
+IsReadToEnd None new = ⊤
+IsReadToEnd (Some bytes) new = new ≡ Some []

@@ -1,0 +1,16 @@
+pub mod Line
+pub mod Spelling
+pub mod Literals
+pub mod Ranges
+pub mod Reading
+pub mod ReadLine
+pub mod Derivation
+pub mod Truth
+pub mod Names
+pub mod Kept
+pub mod Verdicts
+pub mod Answers
+pub mod Leaves
+pub mod Causes
+pub mod Taken
+pub mod Devices

@@ -1,0 +1,27 @@
+//! The commands, by the words of the command line.
+
+ghost use Rattle.std.specs.Prelude.{◌≡◌};
+ghost use Rattle.pm_top.specs.Answers.{command_of};
+
+/// What the program is asked to do.
+#[derive(Clone, Copy, Debug, PartialEq, Eq)]
+pub enum Command {
+    /// Reads a derivation, and says whether each line follows.
+    Check,
+}
+
+/// The command that the words after the program's name are, if they are one.
+pub fn command_of(words: &[String]) -> Option<Command>
+    ensures { result ≡ command_of words.now }
+{
+    match words {
+        [word] => {
+            if word.as_str() == "check" {
+                Some(Command::Check)
+            } else {
+                None
+            }
+        }
+        _ => None,
+    }
+}

@@ -1,0 +1,27 @@
+//! All that the program does: its commands over sources and sinks, and the checker of derivation texts.
+#![tactic(auto)]
+
+mod answer;
+mod checker;
+mod command;
+mod fault;
+mod formulas;
+mod judge;
+mod lines;
+mod memory;
+mod program;
+mod sink;
+mod source;
+mod standard;
+mod status;
+mod words;
+
+pub use memory::{MemSink, MemSource, SureSource};
+pub use program::top;
+pub use sink::{SendFault, Sink, write_all};
+pub use source::{Failed, Source, TakeFault, read_all};
+pub use standard::{StdSink, StdSource};
+pub use status::Status;
+
+#[cfg(test)]
+mod device_tests;
