@@ -32,6 +32,14 @@ pub sep_scoped : (preds : Preds) (k : ℕ) (a b : Formula) → Scoped preds k a 
 unfolding block.shape-the_row-Formula-0 block.hidden-the_row-Formula-0 carrier.hidden Scoped
 sep_scoped preds k a b h g = (h, g)
 
+pub scoped_wand : (preds : Preds) (k : ℕ) (a b : Formula) → Scoped preds k (view.Wand a b) → Scoped preds k a × Scoped preds k b
+unfolding block.shape-the_row-Formula-0 block.hidden-the_row-Formula-0 carrier.hidden Scoped
+scoped_wand preds k a b h = h
+
+pub wand_scoped : (preds : Preds) (k : ℕ) (a b : Formula) → Scoped preds k a → Scoped preds k b → Scoped preds k (view.Wand a b)
+unfolding block.shape-the_row-Formula-0 block.hidden-the_row-Formula-0 carrier.hidden Scoped
+wand_scoped preds k a b h g = (h, g)
+
 pub scoped_pts : (preds : Preds) (k : ℕ) (l : Term) (u : ℕ) (v : Term) → Scoped preds k (Pts l u v) → (1 ≤ u) × (u ≤ 720720)
 unfolding Scoped
 scoped_pts preds k l u v h = (h.1, h.2)
@@ -40,4 +48,4 @@ pub pts_scoped : (preds : Preds) (k : ℕ) (l : Term) (u : ℕ) (v : Term) → 1
 unfolding Scoped
 pts_scoped preds k l u v h g = (term_scoped k l, h, g, term_scoped k v)
 
-pub ruleset scopes = (the_lemmas, scoped_pure, scoped_sep, sep_scoped, scoped_pts, pts_scoped)
+pub ruleset scopes = (the_lemmas, scoped_pure, scoped_sep, sep_scoped, scoped_wand, wand_scoped, scoped_pts, pts_scoped)

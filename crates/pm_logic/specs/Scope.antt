@@ -9,7 +9,7 @@ use Rattle.pm_logic.specs.declared.formula.Formula.TheVariants.{Pure as Fact, Pt
 use Rattle.pm_logic.specs.declared.formula.Pred.{Pred}
 use Rattle.pm_logic.specs.declared.formula.Preds.{Preds}
 use Rattle.pm_logic.specs.declared.formula.TheConstants.{UNIT}
-use Rattle.pm_logic.specs.Trees.{Sep}
+use Rattle.pm_logic.specs.Trees.{Sep, Wand}
 
 -- every index of the term is below k
 unfoldable pub TermScoped : ℕ → Term → Type 0
@@ -22,6 +22,7 @@ PureScoped k True = Unit {0}
 unfoldable pub Scoped : Preds → ℕ → Formula → Type 0
 Scoped preds k (Fact a) = PureScoped k a
 Scoped preds k (Sep a b) = Scoped preds k a × Scoped preds k b
+Scoped preds k (Wand a b) = Scoped preds k a × Scoped preds k b
 Scoped preds k (Pts l u v) = TermScoped k l × (1 ≤ u) × (u ≤ UNIT) × TermScoped k v
 
 -- the body of predicate p, and truth where there is no such predicate

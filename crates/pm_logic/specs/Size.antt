@@ -6,7 +6,7 @@ use Rattle.pm_logic.specs.declared.formula.Pure.{Pure}
 use Rattle.pm_logic.specs.declared.formula.Pure.TheVariants.{True}
 use Rattle.pm_logic.specs.declared.formula.Formula.{Formula}
 use Rattle.pm_logic.specs.declared.formula.Formula.TheVariants.{Pure as Fact, Pts}
-use Rattle.pm_logic.specs.Trees.{Sep}
+use Rattle.pm_logic.specs.Trees.{Sep, Wand}
 
 unfoldable pub term_depth : Term → ℕ
 term_depth (Lit z) = 1
@@ -17,4 +17,5 @@ pure_depth True = 1
 unfoldable pub depth_of : Formula → ℕ
 depth_of (Fact a) = suc (pure_depth a)
 depth_of (Sep a b) = suc (max (depth_of a) (depth_of b))
+depth_of (Wand a b) = suc (max (depth_of a) (depth_of b))
 depth_of (Pts l u v) = suc (max (term_depth l) (term_depth v))

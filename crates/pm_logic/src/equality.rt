@@ -30,6 +30,8 @@ pub fn same(a: &Formula, b: &Formula) -> bool
         (Formula::Pure(p), Formula::Pure(q)) => same_pure(p, q),
         (Formula::Sep(p, q), Formula::Sep(r, s)) => same(p.get(), r.get())
             && same(q.get(), s.get()),
+        (Formula::Wand(p, q), Formula::Wand(r, s)) => same(p.get(), r.get())
+            && same(q.get(), s.get()),
         (
             Formula::Pts { loc, units, val },
             Formula::Pts {

@@ -27,6 +27,8 @@ pub enum Formula {
     Pure(Pure),
     /// The resource has two parts, of which the first meets the first formula and the second the second.
     Sep(Boxed<Formula>, Boxed<Formula>),
+    /// Whatever resource meets the first formula, together with it the resource meets the second, at this step and below.
+    Wand(Boxed<Formula>, Boxed<Formula>),
     /// The location has at least this many units, 1 to `UNIT`, with the value.
     Pts { loc: Term, units: u32, val: Term },
 }

@@ -12,7 +12,9 @@ pub fn scoped(preds: &Preds, k: u32, f: &Formula) -> bool
 {
     match f {
         Formula::Pure(_) => true,
-        Formula::Sep(a, b) => scoped(preds, k, a.get()) && scoped(preds, k, b.get()),
+        Formula::Sep(a, b) | Formula::Wand(a, b) => {
+            scoped(preds, k, a.get()) && scoped(preds, k, b.get())
+        }
         Formula::Pts { units, .. } => 1 <= *units && *units <= UNIT,
     }
 }

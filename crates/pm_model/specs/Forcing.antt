@@ -4,7 +4,7 @@ use Rattle.pm_logic.specs.declared.formula.Formula.{Formula}
 use Rattle.pm_logic.specs.declared.formula.Formula.TheVariants.{Pure as Fact, Pts}
 use Rattle.pm_logic.specs.declared.formula.Pred.{Pred}
 use Rattle.pm_logic.specs.declared.formula.Preds.{Preds}
-use Rattle.pm_logic.specs.Trees.{Sep}
+use Rattle.pm_logic.specs.Trees.{Sep, Wand}
 use Rattle.pm_logic.specs.Values.{eval, Holds}
 use Rattle.pm_logic.specs.Scope.{body_of}
 use Rattle.pm_model.specs.Resource.{Content, Empty, Has, Res, Joins}
@@ -23,6 +23,7 @@ abbrev pub Forced : Bodies → ℕ → Formula → List ℤ → ℕ → ℕ → 
 Forced body all (Fact a) env n b r = Holds env a
 Forced body all (Pts l u v) env n b r = HasAtLeast (r.at (eval env l)) u (eval env v)
 Forced body all (Sep x y) env n b r = (r1 : Res) × (r2 : Res) × Joins r1 r2 r × Forced body all x env n b r1 × Forced body all y env n b r2
+Forced body all (Wand x y) env n b r = (m : ℕ) → m ≤ n → (s c : Res) → Joins r s c → Forced body all x env m b s → Forced body all y env m b c
 
 -- the meanings of the bodies, where calls go at most k deep
 unfoldable pub bodies_to : List Pred → ℕ → Bodies

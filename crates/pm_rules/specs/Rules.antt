@@ -7,10 +7,11 @@ use Rattle.pm_logic.specs.declared.formula.Formula.TheViews as view
 use Rattle.pm_logic.specs.declared.formula.Formula.TheVariants.{Pure as Fact}
 use Rattle.pm_logic.specs.declared.formula.Pure.TheVariants as pure
 use Rattle.pm_rules.specs.declared.rules.Rule.{Rule}
-use Rattle.pm_rules.specs.declared.rules.Rule.TheVariants.{Refl, Trans, True, SepMono, SepComm, SepWeaken}
+use Rattle.pm_rules.specs.declared.rules.Rule.TheVariants.{Refl, Trans, True, SepMono, SepComm, SepWeaken, WandI, WandE}
 use Rattle.pm_rules.specs.declared.rules.Entail.{Entail}
 use Rattle.pm_rules.specs.declared.rules.Unmet.{Unmet}
 
+-- the numbers by which rules are named in answers; those between stand for rules that aren't here
 abbrev pub rule_number : Rule → ℕ
 rule_number Refl = 1
 rule_number Trans = 2
@@ -18,6 +19,8 @@ rule_number True = 4
 rule_number SepMono = 18
 rule_number SepComm = 19
 rule_number SepWeaken = 23
+rule_number WandI = 24
+rule_number WandE = 25
 
 abbrev pub premise_count : Rule → ℕ
 premise_count Refl = 0
@@ -26,6 +29,8 @@ premise_count True = 0
 premise_count SepMono = 2
 premise_count SepComm = 0
 premise_count SepWeaken = 0
+premise_count WandI = 1
+premise_count WandE = 1
 
 -- the premises that are there, in order
 abbrev pub premises : Option Entail → Option Entail → List Entail
@@ -52,6 +57,10 @@ IsCommuted f g = (p q : Formula) × (f ≡ view.Sep p q) × (g ≡ view.Sep q p)
 abbrev pub IsPartOf : Formula → Formula → Type 0
 IsPartOf f p = (q : Formula) × (f ≡ view.Sep p q)
 
+-- P ∗ Q ⊢ R and P ⊢ Q -∗ R
+abbrev pub IsCurried : Formula → Formula → Formula → Formula → Type 0
+IsCurried left right rest wand = (q : Formula) × (left ≡ view.Sep rest q) × (wand ≡ view.Wand q right)
+
 abbrev pub HasShape : Rule → List Entail → Entail → Type 0
 -- P ⊢ P
 HasShape Refl ps e = e.left ≡ e.right
@@ -67,6 +76,12 @@ HasShape SepMono _ e = ⊥
 HasShape SepComm ps e = IsCommuted e.left e.right
 -- P ∗ Q ⊢ P
 HasShape SepWeaken ps e = IsPartOf e.left e.right
+-- P ∗ Q ⊢ R / P ⊢ Q -∗ R
+HasShape WandI (a ∷ []) e = IsCurried a.left a.right e.left e.right
+HasShape WandI _ e = ⊥
+-- P ⊢ Q -∗ R / P ∗ Q ⊢ R
+HasShape WandE (a ∷ []) e = IsCurried e.left e.right a.left a.right
+HasShape WandE _ e = ⊥
 
 -- 5: what the row asks besides; none of these rows asks anything
 abbrev pub HasSide : Rule → List Entail → Entail → Type 0

@@ -4,7 +4,7 @@ ghost use Rattle.std.specs.Prelude.{◌≡◌, ◌↔◌, IsTrue, IsOk};
 ghost use Rattle.std.specs.Option.{option_copied};
 ghost use Rattle.pm_rules.specs.Rules.{rule_number, premise_count, premises, HasPremises, HasVariables, HasShape, RuleOk, Decides};
 
-use crate::shapes::{is_commuted, is_part_of, is_star_of, is_truth};
+use crate::shapes::{is_commuted, is_curried, is_part_of, is_star_of, is_truth};
 use pm_logic::{Formula, Preds, same};
 
 /// With `vars` variables, `left` entails `right`.
@@ -24,6 +24,8 @@ pub enum Rule {
     SepMono,
     SepComm,
     SepWeaken,
+    WandI,
+    WandE,
 }
 
 /// The number of a rule, and the first condition of its row that is unmet, 1 to 5.
@@ -39,6 +41,7 @@ pub fn premise_count(rule: &Rule) -> u8
 {
     match rule {
         Rule::Refl | Rule::True | Rule::SepComm | Rule::SepWeaken => 0,
+        Rule::WandI | Rule::WandE => 1,
         Rule::Trans | Rule::SepMono => 2,
     }
 }
@@ -53,6 +56,8 @@ fn number(rule: &Rule) -> u8
         Rule::SepMono => 18,
         Rule::SepComm => 19,
         Rule::SepWeaken => 23,
+        Rule::WandI => 24,
+        Rule::WandE => 25,
     }
 }
 
@@ -62,6 +67,7 @@ fn has_premises(rule: &Rule, first: Option<&Entail>, second: Option<&Entail>) ->
     match rule {
         Rule::Refl | Rule::True | Rule::SepComm | Rule::SepWeaken => first.is_none()
             && second.is_none(),
+        Rule::WandI | Rule::WandE => first.is_some() != second.is_some(),
         Rule::Trans | Rule::SepMono => first.is_some() && second.is_some(),
     }
 }
@@ -96,6 +102,12 @@ fn has_shape(
         (Rule::True, _, _) => is_truth(right),
         (Rule::SepComm, _, _) => is_commuted(left, right),
         (Rule::SepWeaken, _, _) => is_part_of(left, right),
+        (Rule::WandI, Some(p), None) | (Rule::WandI, None, Some(p)) => {
+            is_curried(&p.left, &p.right, left, right)
+        }
+        (Rule::WandE, Some(p), None) | (Rule::WandE, None, Some(p)) => {
+            is_curried(left, right, &p.left, &p.right)
+        }
         (Rule::Trans, Some(p), Some(q)) => {
             same(left, &p.left) && same(&p.right, &q.left) && same(right, &q.right)
         }
@@ -108,8 +120,8 @@ fn has_shape(
 
 /// Whether `rule` leads from the premises, which are those of `first` and `second` that are there, in this order, to
 /// `conclusion` under the table `preds`. The error names the rule and the first condition of its row that is unmet:
-/// 1, how many premises there are; 2, their variables; 4, the shapes. The conditions 3, on arguments, and 5, in
-/// brackets, hold of each row here, since no row has any.
+/// 1, how many premises there are; 2, their variables; 4, the shapes. The conditions 3, on arguments, and 5, on what the
+/// row asks besides, hold of each row here, since no row has any.
 pub fn rule_ok(
     _preds: &Preds,
     rule: &Rule,

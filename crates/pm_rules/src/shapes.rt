@@ -1,7 +1,7 @@
 //! The shapes of formulas that rows of the table ask for.
 
 ghost use Rattle.std.specs.Prelude.{◌≡◌, ◌↔◌, IsTrue};
-ghost use Rattle.pm_rules.specs.Rules.{IsCommuted, IsPartOf};
+ghost use Rattle.pm_rules.specs.Rules.{IsCommuted, IsCurried, IsPartOf};
 
 use pm_logic::{Formula, Pure, same};
 
@@ -32,6 +32,18 @@ pub fn is_part_of(f: &Formula, g: &Formula) -> bool
 {
     match f {
         Formula::Sep(a, _) => same(a.get(), g),
+        _ => false,
+    }
+}
+
+/// Whether the first entailment has a part of its left side as the wand's left side in the second.
+pub fn is_curried(left: &Formula, right: &Formula, rest: &Formula, wand: &Formula) -> bool
+    ensures { IsTrue result ↔ IsCurried left.now right.now rest.now wand.now }
+{
+    match (left, wand) {
+        (Formula::Sep(p, q), Formula::Wand(r, s)) => same(p.get(), rest)
+            && same(q.get(), r.get())
+            && same(s.get(), right),
         _ => false,
     }
 }

@@ -1,16 +1,16 @@
 -- What is kept of lines, and of one line more.
-use Rattle.std.proofs.Common.{◌≡◌, ◌↔◌, ℕ, ◌+◌, Bool, true, false, ◌||◌, List, [], ◌∷◌, ◌++◌, length, refl, sym, ◌∙◌, ap, subst, arith, Option, Some, None, MatchOption, not, Bor, length-append, append-nil}
+use Rattle.std.proofs.Common.{◌≡◌, ℕ, ◌+◌, Bool, true, false, ◌||◌, List, [], ◌∷◌, ◌++◌, length, refl, sym, ◌∙◌, ap, subst, Option, Some, None, MatchOption, not, Bor, length-append, append-nil}
 use Rattle.std.specs.List.{list_any}
 use Rattle.std.specs.HashSet.{hash_set_len}
 use Rattle.std.specs.Str.{bytes_eq}
 use Rattle.pm_rules.specs.declared.rules.Rule.{Rule}
 use Rattle.pm_rules.specs.declared.rules.Entail.{Entail}
 use Rattle.pm_top.specs.Line.{Line, Step, Qed}
-use Rattle.pm_top.specs.Derivation.{steps, names, is_used, proof_line, IsStatement, StepOk, QedOk, LineOk, IsDerivation, FailsFirst, line_number, statement_count}
+use Rattle.pm_top.specs.Derivation.{steps, names, is_used, proof_line, IsStatement, StepOk, QedOk}
 use Rattle.pm_top.specs.Names.{NameSet, has_name, Adds}
 use Rattle.pm_top.specs.Kept.{KeepsAll, TakesLine}
 use Rattle.pm_top.specs.declared.checker.Accepted.{Accepted}
-use Rattle.pm_top.proofs.Grown.{steps_grown, names_grown, used_grown, derivation_none, derivation_more, fails_now, fails_before}
+use Rattle.pm_top.proofs.Grown.{steps_grown, names_grown, used_grown, derivation_none, derivation_more, fails_now}
 
 -- a proof line that follows
 pub keeps_step : (ls : List Line) (es new_es : List Entail) (used new_used : NameSet) (rule : Rule) (first second : Option ℕ) (e : Entail) → KeepsAll ls es used → StepOk es rule first second e → new_es ≡ es ++ e ∷ [] → new_used ≡ used → KeepsAll (ls ++ Step rule first second e ∷ []) new_es new_used

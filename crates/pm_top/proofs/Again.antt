@@ -1,6 +1,6 @@
 -- What is spelled is read again: words, numbers and formulas.
 use Rattle.std.proofs.Common.{◌≡◌, ◌≢◌, ◌&&◌, ℕ, zero, suc, ◌<◌, ◌≤◌, ◌^◌, ◌+◌, ◌-◌, Bool, true, false, not, ◌==◌, List, [], ◌∷◌, ◌++◌, length, get_or, take, drop, refl, ◌∙◌, ap, arith, Option, Some, None, Result, Ok, Err}
-use Rattle.std.specs.Prelude.{codes, ℤ, pos, negsuc, nat_le, nat_lt}
+use Rattle.std.specs.Prelude.{codes, max, ℤ, pos, negsuc, nat_le, nat_lt}
 use Rattle.std.specs.Fmt.{decimal, signed_decimal}
 use Rattle.std.specs.List.{prefix_len, list_all}
 use Rattle.std.specs.Str.{bytes_eq}
@@ -15,16 +15,17 @@ use Rattle.pm_logic.specs.declared.formula.Term.TheVariants.{Lit}
 use Rattle.pm_logic.specs.declared.formula.Pure.TheVariants as pure
 use Rattle.pm_logic.specs.declared.formula.Formula.{Formula}
 use Rattle.pm_logic.specs.declared.formula.Formula.TheVariants.{Pure as Fact, Pts}
+use Rattle.pm_logic.specs.declared.formula.Formula.TheViews as view
 use Rattle.pm_logic.specs.declared.formula.TheConstants.{UNIT}
-use Rattle.pm_logic.specs.Trees.{Sep}
+use Rattle.pm_logic.specs.Trees.{Sep, Wand}
 use Rattle.pm_logic.specs.Scope.{Scoped, no_predicates}
 use Rattle.pm_logic.specs.Size.{term_depth, pure_depth, depth_of}
-use Rattle.pm_logic.proofs.Views.{view_sep}
+use Rattle.pm_logic.proofs.Views.{view_sep, view_wand}
 use Rattle.pm_top.specs.declared.fault.Fault.{Fault}
 use Rattle.pm_top.specs.declared.fault.Fault.TheVariants.{Syntax}
 use Rattle.pm_top.specs.Spelling.{term_text, formula_text}
 use Rattle.pm_top.specs.Literals.{IsI64, TermLiteralsFit, LiteralsFit}
-use Rattle.pm_top.specs.Reading.{is_word_byte, word, after, expect_at, skip_at, or_syntax, number_of, number_at, literal_of, positive, negative, term_at, truth_at, units_at, points_at, star_at, formula_with, formula_at}
+use Rattle.pm_top.specs.Reading.{is_word_byte, word, after, expect_at, skip_at, or_syntax, number_of, number_at, literal_of, positive, negative, term_at, truth_at, units_at, points_at, sides_of, two_at, formula_with, formula_at}
 use Rattle.pm_top.proofs.Numbers.{number_again, first_digit}
 use Rattle.pm_top.proofs.Steps.{if_true, if_false, both_true, true_both, true_le, true_lt, false_eq}
 
@@ -156,24 +157,31 @@ points_again : (levels : ℕ) (inner : List ℕ → Result (Formula × List ℕ)
 unfolding formula_with points_at skip_at
 points_again levels inner l u v a b c rest loc units val = rw loc (rw units (rw val refl))
 
-star_again : (levels : ℕ) (inner : List ℕ → Result (Formula × List ℕ) Fault) (p q : Formula) (a b rest : List ℕ) → inner a ≡ Ok (p, 32 ∷ b) → inner b ≡ Ok (q, rest) → formula_with levels inner (codes "sep " ++ a) ≡ Ok (Sep p q, rest)
-unfolding formula_with star_at skip_at
-star_again levels inner p q a b rest left right = rw left (rw right (ap (λ f. Ok (f, rest)) (view_sep p q)))
+abbrev ReadsAgain : ℕ → Formula → Type 0
+ReadsAgain levels f = (rest : List ℕ) → Scoped no_predicates 0 f → LiteralsFit f → depth_of f ≤ levels → stops rest ≡ true → formula_at levels (formula_text f rest) ≡ Ok (f, rest)
+
+two_again : (make : Formula → Formula → Formula) (levels : ℕ) (p q : Formula) (rest : List ℕ) → ReadsAgain levels p → ReadsAgain levels q → Scoped no_predicates 0 p × Scoped no_predicates 0 q → LiteralsFit p × LiteralsFit q → max (depth_of p) (depth_of q) ≤ levels → stops rest ≡ true → two_at make (formula_at levels) (32 ∷ formula_text p (32 ∷ formula_text q rest)) ≡ Ok (make p q, rest)
+unfolding two_at sides_of skip_at
+two_again make levels p q rest each_p each_q scoped literals deep e =
+    let left : formula_at levels (formula_text p (32 ∷ formula_text q rest)) ≡ Ok (p, 32 ∷ formula_text q rest) = each_p (32 ∷ formula_text q rest) scoped.0 literals.0 (omega arith) refl in
+    let right : formula_at levels (formula_text q rest) ≡ Ok (q, rest) = each_q rest scoped.1 literals.1 (omega arith) e in
+    rw left (rw right refl)
 
 some_depth : (f : Formula) → 0 < depth_of f
 unfolding depth_of
 some_depth (Fact a) = omega arith
 some_depth (Sep p q) = omega arith
+some_depth (Wand p q) = omega arith
 some_depth (Pts l u v) = omega arith
 
 pub formula_again : (f : Formula) (levels : ℕ) (rest : List ℕ) → Scoped no_predicates 0 f → LiteralsFit f → depth_of f ≤ levels → stops rest ≡ true → formula_at levels (formula_text f rest) ≡ Ok (f, rest)
-unfolding formula_text formula_at Scoped LiteralsFit depth_of pure_depth
+unfolding formula_text formula_at formula_with Scoped LiteralsFit depth_of pure_depth
 formula_again f zero rest scoped literals deep e = absurd (omega (arith, some_depth f))
 formula_again (Fact pure.True) (suc n) rest scoped literals deep e = truth_again n (formula_at n) rest (omega arith) e
 formula_again (Sep p q) (suc n) rest scoped literals deep e =
-    star_again n (formula_at n) p q (formula_text p (32 ∷ formula_text q rest)) (formula_text q rest) rest
-    (formula_again p n (32 ∷ formula_text q rest) scoped.0 literals.0 (omega arith) refl)
-    (formula_again q n rest scoped.1 literals.1 (omega arith) e)
+    two_again view.Sep n p q rest (λ r. formula_again p n r) (λ r. formula_again q n r) scoped literals (omega arith) e ∙ ap (λ f. Ok (f, rest)) (view_sep p q)
+formula_again (Wand p q) (suc n) rest scoped literals deep e =
+    two_again view.Wand n p q rest (λ r. formula_again p n r) (λ r. formula_again q n r) scoped literals (omega arith) e ∙ ap (λ f. Ok (f, rest)) (view_wand p q)
 formula_again (Pts l u v) (suc n) rest scoped literals deep e =
     points_again n (formula_at n) l u v (term_text l (32 ∷ (decimal u ++ (32 ∷ term_text v rest)))) (decimal u ++ (32 ∷ term_text v rest)) (term_text v rest) rest
     (term_again l n (32 ∷ (decimal u ++ (32 ∷ term_text v rest))) literals.0 (omega arith) refl)

@@ -7,7 +7,7 @@ use Rattle.std.specs.Str.{bytes_eq}
 use Rattle.std.proofs.lemmas.Slice.Eq.{bytes_eq-Decides}
 use Rattle.pm_logic.specs.declared.formula.Formula.{Formula}
 use Rattle.pm_rules.specs.declared.rules.Rule.{Rule}
-use Rattle.pm_rules.specs.declared.rules.Rule.TheVariants.{Refl, Trans, True, SepMono, SepComm, SepWeaken}
+use Rattle.pm_rules.specs.declared.rules.Rule.TheVariants.{Refl, Trans, True, SepMono, SepComm, SepWeaken, WandI, WandE}
 use Rattle.pm_rules.specs.declared.rules.Entail.{Entail}
 use Rattle.pm_rules.specs.Rules.{premise_count}
 use Rattle.pm_top.specs.Line.{Line, Step, Qed}
@@ -27,6 +27,8 @@ rule_word True = refl
 rule_word SepMono = refl
 rule_word SepComm = refl
 rule_word SepWeaken = refl
+rule_word WandI = refl
+rule_word WandE = refl
 
 rule_of_again : (r : Rule) → rule_of (rule_name r) ≡ Some r
 unfolding rule_of
@@ -36,6 +38,8 @@ rule_of_again True = refl
 rule_of_again SepMono = refl
 rule_of_again SepComm = refl
 rule_of_again SepWeaken = refl
+rule_of_again WandI = refl
+rule_of_again WandE = refl
 
 rule_again : (r : Rule) (rest : List ℕ) → stops rest ≡ true → rule_at (rule_name r ++ rest) ≡ Ok (r, rest)
 unfolding rule_at

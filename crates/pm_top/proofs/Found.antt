@@ -1,6 +1,6 @@
 -- What was read is spelled so, is in its ranges, and took so many bytes.
 use Rattle.std.proofs.Common.{◌≡◌, ◌&&◌, ℕ, zero, suc, ◌<◌, ◌≤◌, ◌^◌, ◌+◌, ◌-◌, true, ◌==◌, List, [], ◌∷◌, ◌++◌, length, refl, sym, ◌∙◌, ap, subst, arith, Option, Some, None, Result, Ok, inl, inr}
-use Rattle.std.specs.Prelude.{codes, ℤ, pos, negsuc, nat_le, nat_lt}
+use Rattle.std.specs.Prelude.{codes, max, ℤ, pos, negsuc, nat_le, nat_lt}
 use Rattle.std.specs.Fmt.{decimal, signed_decimal}
 use Rattle.std.specs.List.{prefix_len}
 use Rattle.std.specs.Str.{bytes_eq}
@@ -14,15 +14,14 @@ use Rattle.pm_logic.specs.declared.formula.Formula.{Formula}
 use Rattle.pm_logic.specs.declared.formula.Formula.TheVariants.{Pure as Fact, Pts}
 use Rattle.pm_logic.specs.declared.formula.Formula.TheViews as view
 use Rattle.pm_logic.specs.declared.formula.TheConstants.{UNIT}
-use Rattle.pm_logic.specs.Trees.{Sep}
 use Rattle.pm_logic.specs.Scope.{TermScoped, PureScoped, Scoped, no_predicates}
 use Rattle.pm_logic.specs.Size.{term_depth, pure_depth, depth_of}
-use Rattle.pm_logic.proofs.Views.{view_sep}
+use Rattle.pm_logic.proofs.Views.{view_sep, view_wand}
 use Rattle.pm_top.specs.declared.fault.Fault.{Fault}
 use Rattle.pm_top.specs.declared.fault.Fault.TheVariants.{Syntax, Deep}
 use Rattle.pm_top.specs.Spelling.{term_text, formula_text}
 use Rattle.pm_top.specs.Literals.{IsI64, TermLiteralsFit, PureLiteralsFit, LiteralsFit}
-use Rattle.pm_top.specs.Reading.{◌>>=◌, is_word_byte, word, after, expect_at, skip_at, or_syntax, number_of, number_at, literal_of, positive, negative, term_at, truth_at, units_at, points_at, star_at, formula_with, formula_at}
+use Rattle.pm_top.specs.Reading.{◌>>=◌, is_word_byte, word, after, expect_at, skip_at, or_syntax, number_of, number_at, literal_of, positive, negative, term_at, truth_at, units_at, points_at, sides_of, two_at, formula_with, formula_at}
 use Rattle.pm_top.proofs.Numbers.{number_some}
 use Rattle.pm_top.proofs.Steps.{with_ok, more_ok, chosen_ok, chosen, some_is, or_syntax_ok, ok_is, both_true, le_true, lt_true}
 
@@ -189,32 +188,72 @@ points_found levels bytes f rest is h =
     (points_made levels l.0 u.0 v.0 bytes (after bytes) a l.1 c u.1 e v.1 (word_found (codes "pts") bytes is)
     (skip_found 32 (after bytes) a ea) (term_found levels a l.0 l.1 el) (skip_found 32 l.1 c ec) (units_found c u.0 u.1 eu) (skip_found 32 u.1 e ee) (term_found levels e v.0 v.1 ev))))))))
 
-star_made : (levels : ℕ) (p q : Formula) (whole bytes a b c rest : List ℕ) → Takes 0 whole (codes "sep" ++ bytes) bytes → Takes 1 bytes (32 ∷ a) a → FormulaFound levels a p b → Takes 1 b (32 ∷ c) c → FormulaFound levels c q rest → FormulaFound (suc levels) whole (Sep p q) rest
-unfolding formula_text Scoped LiteralsFit depth_of
-star_made levels p q whole bytes a b c rest w s left t right = record {
+-- ---- formulas of two sides
+
+abbrev FindsAll : ℕ → (List ℕ → Result (Formula × List ℕ) Fault) → Type 0
+FindsAll levels inner = (bytes : List ℕ) (f : Formula) (rest : List ℕ) → inner bytes ≡ Ok (f, rest) → FormulaFound levels bytes f rest
+
+record SidesFound (levels : ℕ) (bytes : List ℕ) (p q : Formula) (rest : List ℕ) : Type 0 where
+  taken : Takes 0 bytes (32 ∷ formula_text p (32 ∷ formula_text q rest)) rest
+  scoped : Scoped no_predicates 0 p × Scoped no_predicates 0 q
+  literals : LiteralsFit p × LiteralsFit q
+  depth : max (depth_of p) (depth_of q) ≤ levels
+
+sides_made : (levels : ℕ) (p q : Formula) (bytes a b c rest : List ℕ) → Takes 1 bytes (32 ∷ a) a → FormulaFound levels a p b → Takes 1 b (32 ∷ c) c → FormulaFound levels c q rest → SidesFound levels bytes p q rest
+sides_made levels p q bytes a b c rest s left t right = record {
   taken = record {
-    parts = w.parts ∙ ap (λ x. codes "sep" ++ x) (s.parts ∙ ap (λ x. 32 ∷ x) (left.taken.parts ∙ ap (formula_text p) (t.parts ∙ ap (λ x. 32 ∷ x) right.taken.parts)));
-    shorter = omega (arith, w.shorter, s.shorter, left.taken.shorter, t.shorter, right.taken.shorter);
+    parts = s.parts ∙ ap (λ x. 32 ∷ x) (left.taken.parts ∙ ap (formula_text p) (t.parts ∙ ap (λ x. 32 ∷ x) right.taken.parts));
+    shorter = omega (arith, s.shorter, left.taken.shorter, t.shorter, right.taken.shorter);
   };
   scoped = (left.scoped, right.scoped);
   literals = (left.literals, right.literals);
   depth = omega (arith, left.depth, right.depth);
 }
 
-abbrev FindsAll : ℕ → (List ℕ → Result (Formula × List ℕ) Fault) → Type 0
-FindsAll levels inner = (bytes : List ℕ) (f : Formula) (rest : List ℕ) → inner bytes ≡ Ok (f, rest) → FormulaFound levels bytes f rest
+sides_found : (levels : ℕ) (inner : List ℕ → Result (Formula × List ℕ) Fault) (bytes : List ℕ) (p q : Formula) (rest : List ℕ) → FindsAll levels inner → sides_of inner bytes ≡ Ok (p, q, rest) → SidesFound levels bytes p q rest
+unfolding sides_of
+sides_found levels inner bytes p q rest each h =
+    with_ok (skip_at 32 bytes) _ (p, q, rest) h (λ a ea ha.
+    with_ok (inner a) _ (p, q, rest) ha (λ l el hl.
+    with_ok (skip_at 32 l.1) _ (p, q, rest) hl (λ c ec hc.
+    with_ok (inner c) _ (p, q, rest) hc (λ r er hr.
+    subst (λ (s : Formula × Formula × List ℕ). SidesFound levels bytes s.0 s.1 s.2) (ok_is {A = Formula × Formula × List ℕ} (l.0, r.0, r.1) (p, q, rest) hr)
+    (sides_made levels l.0 r.0 bytes a l.1 c r.1 (skip_found 32 bytes a ea) (each a l.0 l.1 el) (skip_found 32 l.1 c ec) (each c r.0 r.1 er))))))
 
-star_found : (levels : ℕ) (inner : List ℕ → Result (Formula × List ℕ) Fault) (bytes : List ℕ) (f : Formula) (rest : List ℕ) → FindsAll levels inner → bytes_eq (word bytes) (codes "sep") ≡ true → star_at inner (after bytes) ≡ Ok (f, rest) → FormulaFound (suc levels) bytes f rest
-unfolding star_at
-star_found levels inner bytes f rest each is h =
-    with_ok (skip_at 32 (after bytes)) _ (f, rest) h (λ a ea ha.
-    with_ok (inner a) _ (f, rest) ha (λ p ep hp.
-    with_ok (skip_at 32 p.1) _ (f, rest) hp (λ c ec hc.
-    with_ok (inner c) _ (f, rest) hc (λ q eq hq.
-    subst (λ (r : Formula × List ℕ). FormulaFound (suc levels) bytes r.0 r.1) (ok_is {A = Formula × List ℕ} (view.Sep p.0 q.0, q.1) (f, rest) hq)
-    (subst (λ (g : Formula). FormulaFound (suc levels) bytes g q.1) (sym (view_sep p.0 q.0))
-    (star_made levels p.0 q.0 bytes (after bytes) a p.1 c q.1 (word_found (codes "sep") bytes is)
-    (skip_found 32 (after bytes) a ea) (each a p.0 p.1 ep) (skip_found 32 p.1 c ec) (each c q.0 q.1 eq)))))))
+-- f is spelled by the sign and its two sides, is fit where they are, and is one level deeper
+record IsOfTwo (sign : List ℕ) (f p q : Formula) : Type 0 where
+  text : (rest : List ℕ) → formula_text f rest ≡ sign ++ (32 ∷ formula_text p (32 ∷ formula_text q rest))
+  scoped : Scoped no_predicates 0 p × Scoped no_predicates 0 q → Scoped no_predicates 0 f
+  literals : LiteralsFit p × LiteralsFit q → LiteralsFit f
+  depth : depth_of f ≡ suc (max (depth_of p) (depth_of q))
+
+star_of_two : (p q : Formula) → IsOfTwo (codes "sep") (view.Sep p q) p q
+unfolding formula_text Scoped LiteralsFit depth_of
+star_of_two p q = subst (λ (f : Formula). IsOfTwo (codes "sep") f p q) (sym (view_sep p q)) (record { text = λ rest. refl; scoped = λ h. h; literals = λ h. h; depth = refl })
+
+wand_of_two : (p q : Formula) → IsOfTwo (codes "wand") (view.Wand p q) p q
+unfolding formula_text Scoped LiteralsFit depth_of
+wand_of_two p q = subst (λ (f : Formula). IsOfTwo (codes "wand") f p q) (sym (view_wand p q)) (record { text = λ rest. refl; scoped = λ h. h; literals = λ h. h; depth = refl })
+
+two_made : (levels : ℕ) (sign : List ℕ) (f p q : Formula) (whole bytes rest : List ℕ) → IsOfTwo sign f p q → Takes 0 whole (sign ++ bytes) bytes → SidesFound levels bytes p q rest → FormulaFound (suc levels) whole f rest
+two_made levels sign f p q whole bytes rest two w s = record {
+  taken = record {
+    parts = w.parts ∙ (ap (λ x. sign ++ x) s.taken.parts ∙ sym (two.text rest));
+    shorter = omega (arith, w.shorter, s.taken.shorter);
+  };
+  scoped = two.scoped s.scoped;
+  literals = two.literals s.literals;
+  depth = omega (arith, two.depth, s.depth);
+}
+
+two_found : (sign : List ℕ) (make : Formula → Formula → Formula) (levels : ℕ) (inner : List ℕ → Result (Formula × List ℕ) Fault) (bytes : List ℕ) (f : Formula) (rest : List ℕ) → ((p q : Formula) → IsOfTwo sign (make p q) p q) → FindsAll levels inner → bytes_eq (word bytes) sign ≡ true → two_at make inner (after bytes) ≡ Ok (f, rest) → FormulaFound (suc levels) bytes f rest
+unfolding two_at
+two_found sign make levels inner bytes f rest two each is h =
+    with_ok (sides_of inner (after bytes)) _ (f, rest) h (λ s es hs.
+    subst (λ (r : Formula × List ℕ). FormulaFound (suc levels) bytes r.0 r.1) (ok_is {A = Formula × List ℕ} (make s.0 s.1, s.2) (f, rest) hs)
+    (two_made levels sign (make s.0 s.1) s.0 s.1 bytes (after bytes) s.2 (two s.0 s.1) (word_found sign bytes is) (sides_found levels inner (after bytes) s.0 s.1 s.2 each es)))
+
+-- ---- any formula
 
 with_found : (levels : ℕ) (inner : List ℕ → Result (Formula × List ℕ) Fault) (bytes : List ℕ) (f : Formula) (rest : List ℕ) → FindsAll levels inner → formula_with levels inner bytes ≡ Ok (f, rest) → FormulaFound (suc levels) bytes f rest
 unfolding formula_with
@@ -225,8 +264,12 @@ with_found levels inner bytes f rest each e =
         | inl d ↦ points_found levels bytes f rest d.0 d.1
         | inr d ↦
             elim (chosen (bytes_eq (word bytes) (codes "sep")) _ _ (Ok (f, rest)) d.1) [
-              | inl h ↦ star_found levels inner bytes f rest each h.0 h.1
-              | inr h ↦ absurd cc
+              | inl h ↦ two_found (codes "sep") view.Sep levels inner bytes f rest star_of_two each h.0 h.1
+              | inr h ↦
+                  elim (chosen (bytes_eq (word bytes) (codes "wand")) _ _ (Ok (f, rest)) h.1) [
+                    | inl g ↦ two_found (codes "wand") view.Wand levels inner bytes f rest wand_of_two each g.0 g.1
+                    | inr g ↦ absurd cc
+                  ]
             ]
       ]
     ]

@@ -6,7 +6,7 @@ use Rattle.std.specs.Str.{bytes_eq}
 use Rattle.std.proofs.lemmas.Slice.Eq.{bytes_eq-Decides}
 use Rattle.pm_logic.specs.declared.formula.Formula.{Formula}
 use Rattle.pm_rules.specs.declared.rules.Rule.{Rule}
-use Rattle.pm_rules.specs.declared.rules.Rule.TheVariants.{Refl, Trans, True, SepMono, SepComm, SepWeaken}
+use Rattle.pm_rules.specs.declared.rules.Rule.TheVariants.{Refl, Trans, True, SepMono, SepComm, SepWeaken, WandI, WandE}
 use Rattle.pm_rules.specs.declared.rules.Entail.{Entail}
 use Rattle.pm_rules.specs.Rules.{premise_count}
 use Rattle.pm_top.specs.Line.{Line, Step, Qed}
@@ -41,7 +41,13 @@ rule_some w r e =
             | inl c ↦ named w SepMono r c.0 c.1
             | inr c ↦ elim (chosen (bytes_eq w (codes "sep-comm")) _ _ (Some r) c.1) [
               | inl c ↦ named w SepComm r c.0 c.1
-              | inr c ↦ named w SepWeaken r (some_is (bytes_eq w (codes "sep-weaken")) SepWeaken r c.1).0 (ap Some (some_is (bytes_eq w (codes "sep-weaken")) SepWeaken r c.1).1)
+              | inr c ↦ elim (chosen (bytes_eq w (codes "sep-weaken")) _ _ (Some r) c.1) [
+                | inl c ↦ named w SepWeaken r c.0 c.1
+                | inr c ↦ elim (chosen (bytes_eq w (codes "wand-i")) _ _ (Some r) c.1) [
+                  | inl c ↦ named w WandI r c.0 c.1
+                  | inr c ↦ named w WandE r (some_is (bytes_eq w (codes "wand-e")) WandE r c.1).0 (ap Some (some_is (bytes_eq w (codes "wand-e")) WandE r c.1).1)
+                ]
+              ]
             ]
           ]
         ]

@@ -1,5 +1,5 @@
 -- Lines that were read from the front of a text, and what the text is found to be.
-use Rattle.std.proofs.Common.{◌≡◌, ◌≢◌, ◌⊎◌, ℕ, zero, suc, ◌+◌, ◌*◌, ◌-◌, ◌<◌, ◌≤◌, ◌^◌, List, [], ◌∷◌, ◌++◌, length, refl, sym, ◌∙◌, ap, subst, arith, Option, Some, None, Result, Ok, Err, MatchOption, inl, inr, append-nil}
+use Rattle.std.proofs.Common.{◌≡◌, ◌≢◌, ℕ, ◌+◌, ◌*◌, ◌-◌, ◌<◌, ◌≤◌, ◌^◌, List, [], ◌∷◌, ◌++◌, length, refl, sym, ◌∙◌, ap, subst, arith, Option, Some, None, Result, Ok, Err, append-nil}
 use Rattle.std.specs.List.{AllByRecursion}
 use Rattle.std.specs.HashSet.{hash_set_len}
 use Rattle.pm_top.specs.declared.checker.Accepted.{Accepted}
@@ -7,14 +7,13 @@ use Rattle.pm_top.specs.declared.fault.Fault.{Fault}
 use Rattle.pm_top.specs.declared.judge.Verdict.{Verdict}
 use Rattle.pm_top.specs.declared.judge.Verdict.TheVariants as verdict
 use Rattle.pm_top.specs.Line.{Line, Step, Qed}
-use Rattle.pm_top.specs.Spelling.{next_number, line_text, lines_text, header_text, text_of}
+use Rattle.pm_top.specs.Spelling.{next_number, line_text, lines_text, header_text}
 use Rattle.pm_top.specs.Ranges.{LineFits, IsSmallText}
 use Rattle.pm_top.specs.Reading.{line_at, header_at}
-use Rattle.pm_top.specs.Derivation.{IsDerivation, FailsFirst, statement_count}
 use Rattle.pm_top.specs.Kept.{KeepsAll, Accepts, TakesLine}
 use Rattle.pm_top.specs.Verdicts.{AreLines, Judges, accepts, refuses, unreadable, Keeps, TakesNext}
 use Rattle.pm_top.proofs.Grown.{fails_before}
-use Rattle.pm_top.proofs.FoundLines.{LineFound, line_found, header_found}
+use Rattle.pm_top.proofs.FoundLines.{line_found, header_found}
 use Rattle.pm_top.proofs.AgainLines.{line_again, header_again}
 
 -- ---- one line more

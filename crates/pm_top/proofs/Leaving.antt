@@ -1,24 +1,37 @@
 -- What a run leaves at the sink.
-use Rattle.std.proofs.Common.{◌≡◌, ◌⊎◌, ℕ, ◌≤◌, ◌<◌, List, [], length, refl, sym, ◌∙◌, ap, subst, Option, Some, None, inl, inr}
+use Rattle.std.proofs.Common.{◌≡◌, ◌⊎◌, ℕ, zero, suc, ◌≤◌, ◌<◌, List, [], ◌∷◌, length, lit<, refl, sym, ◌∙◌, ap, subst, Option, Some, None, inl, inr}
 use Rattle.std.specs.Io.KnownBytes.{Appends, Keeps}
 use Rattle.pm_top.specs.Taken.{TakesAll, HasMoreThan, AppendsFront}
+use Rattle.pm_top.specs.Truth.{SaysTruth}
 use Rattle.pm_top.specs.declared.command.Command.{Command}
 use Rattle.pm_top.specs.declared.command.Command.TheVariants.{Check}
 use Rattle.pm_top.specs.declared.status.Status.{Status}
 use Rattle.pm_top.specs.declared.status.Status.TheVariants as status
-use Rattle.pm_top.specs.Answers.{too_long_line, usage_line, Checks, too_long, IsOfInput, IfTold, Defines}
+use Rattle.pm_top.specs.Answers.{too_long_line, usage_line, Checks, too_long, IfTold, Defines}
 use Rattle.pm_top.specs.Leaves.{IsAnswer, Writes, WritesFront, Leaves, IsDefined}
-use Rattle.pm_top.proofs.Answering.{one_answer}
+use Rattle.pm_top.proofs.Answering.{one_answer, done_truth}
 
 -- ---- what is defined
 
-pub defines_long : (input : Option (List ℕ)) → HasMoreThan input 16777216 → Defines (Some Check) input status.TooLong too_long_line
-defines_long None h = (tt, tt)
-defines_long (Some bytes) h = (tt, too_long h)
+-- some input that is too long
+long_bytes : ℕ → List ℕ
+long_bytes zero = []
+long_bytes (suc n) = 0 ∷ long_bytes n
 
-pub defines_check : (input left : Option (List ℕ)) (bytes : List ℕ) (s : Status) (text : List ℕ) → TakesAll input left bytes → IsOfInput s → Checks bytes s text → Defines (Some Check) input s text
-defines_check None left bytes s text h i a = (i, tt)
-defines_check (Some xs) left bytes s text h i a = (i, subst (λ (b : List ℕ). Checks b s text) (sym h.0) a)
+long_length : (n : ℕ) → length (long_bytes n) ≡ n
+unfolding long_bytes
+long_length zero = refl
+long_length (suc n) = ap suc (long_length n)
+
+pub defines_long : (input : Option (List ℕ)) → HasMoreThan input 16777216 → Defines (Some Check) input status.TooLong too_long_line
+defines_long None h =
+    let long : 16777216 < length (long_bytes 16777217) = subst (λ (n : ℕ). 16777216 < n) (sym (long_length 16777217)) (lit< tt) in
+    record { bytes = long_bytes 16777217; told = tt; checks = too_long long }
+defines_long (Some bytes) h = record { bytes = bytes; told = refl; checks = too_long h }
+
+pub defines_check : (input left : Option (List ℕ)) (bytes : List ℕ) (s : Status) (text : List ℕ) → TakesAll input left bytes → Checks bytes s text → Defines (Some Check) input s text
+defines_check None left bytes s text h a = record { bytes = bytes; told = tt; checks = a }
+defines_check (Some xs) left bytes s text h a = record { bytes = bytes; told = h.0; checks = a }
 
 -- ---- what the writer of a line leaves
 
@@ -42,7 +55,8 @@ leaves command input old new s r text d nr whole front = go r nr whole front
 
 same_defined : (command : Option Command) (bytes : List ℕ) (s r : Status) (text line : List ℕ) → Defines command (Some bytes) s text → Defines command (Some bytes) r line → (s ≡ r) × (text ≡ line)
 same_defined None bytes s r text line d e = (d.0 ∙ sym e.0, d.1 ∙ sym e.1)
-same_defined (Some Check) bytes s r text line d e = one_answer bytes s r text line d.1 e.1
+same_defined (Some Check) bytes s r text line d e =
+    one_answer bytes s r text line (subst (λ (b : List ℕ). Checks b s text) (sym d.told) d.checks) (subst (λ (b : List ℕ). Checks b r line) (sym e.told) e.checks)
 
 writes_of : (command : Option Command) (input old new : Option (List ℕ)) (r : Status) → IsAnswer r → Leaves command input old new r → Writes command input r old new
 writes_of command input old new status.Done a w = w
@@ -66,3 +80,10 @@ is_defined command input old new r l = record {
 -- what a run of this command leaves
 pub at_command : (command other : Option Command) (input old new : Option (List ℕ)) (r : Status) → other ≡ command → Leaves command input old new r → Leaves other input old new r
 at_command command other input old new r e l = subst (λ (c : Option Command). Leaves c input old new r) (sym e) l
+
+-- what is accepted is true
+pub leaves_truth : (input old new : Option (List ℕ)) (r : Status) → Leaves (Some Check) input old new r → r ≡ status.Done → IfTold input SaysTruth
+leaves_truth None old new r l e = tt
+leaves_truth (Some bytes) old new r l e =
+    let w : Writes (Some Check) (Some bytes) status.Done old new = subst (λ (q : Status). Leaves (Some Check) (Some bytes) old new q) e l in
+    done_truth bytes status.Done w.text refl (subst (λ (b : List ℕ). Checks b status.Done w.text) (sym w.defined.told) w.defined.checks)

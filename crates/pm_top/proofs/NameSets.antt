@@ -1,6 +1,5 @@
 -- A set of names and one name more.
 use Rattle.std.proofs.Common.{◌≡◌, ℕ, ◌+◌, Bool, true, false, cond, ◌||◌, List, refl, sym, ◌∙◌, ap, Bor}
-use Rattle.std.specs.Prelude.{if◌then◌else◌}
 use Rattle.std.specs.Bool.{OnTrue}
 use Rattle.std.specs.HashSet.{Updates, hash_set_len}
 use Rattle.std.specs.Str.{bytes_eq}

@@ -1,21 +1,20 @@
 -- Each rule leads from true premises to a true conclusion.
-use Rattle.std.proofs.Common.{◌≡◌, ℕ, ◌≤◌, List, [], ◌∷◌, length, ℤ, le_refl, sym, ◌∙◌, subst, subst₂}
+use Rattle.std.proofs.Common.{◌≡◌, ℕ, List, [], ◌∷◌, length, le_refl, sym, ◌∙◌, subst, subst₂}
 use Rattle.std.specs.List.{AllByRecursion}
 use Rattle.pm_logic.specs.declared.formula.Formula.{Formula}
 use Rattle.pm_logic.specs.declared.formula.Formula.TheVariants.{Pure as Fact}
 use Rattle.pm_logic.specs.declared.formula.Pure.TheVariants as pure
 use Rattle.pm_logic.specs.declared.formula.Preds.{Preds}
-use Rattle.pm_logic.specs.Trees.{Sep}
-use Rattle.pm_logic.proofs.Views.{view_sep}
-use Rattle.pm_model.specs.Resource.{Res, Extends}
-use Rattle.pm_model.specs.Forcing.{Forces, bodies}
+use Rattle.pm_logic.specs.Trees.{Sep, Wand}
+use Rattle.pm_logic.proofs.Views.{view_sep, view_wand}
+use Rattle.pm_model.specs.Forcing.{bodies}
 use Rattle.pm_model.specs.Entailment.{IsTrueEntailment}
-use Rattle.pm_model.proofs.Joins.{joins_comm, extends_left}
+use Rattle.pm_model.proofs.Joins.{joins_comm, extends_left, extends_refl}
 use Rattle.pm_model.proofs.Steps.{forced_monotone}
 use Rattle.pm_rules.specs.declared.rules.Entail.{Entail}
 use Rattle.pm_rules.specs.declared.rules.Rule.{Rule}
-use Rattle.pm_rules.specs.declared.rules.Rule.TheVariants.{Refl, Trans, True, SepMono, SepComm, SepWeaken}
-use Rattle.pm_rules.specs.Rules.{RuleOk, HasShape, HasVariables}
+use Rattle.pm_rules.specs.declared.rules.Rule.TheVariants.{Refl, Trans, True, SepMono, SepComm, SepWeaken, WandI, WandE}
+use Rattle.pm_rules.specs.Rules.{RuleOk, HasShape}
 
 -- ---- the rules over formulas
 
@@ -49,6 +48,20 @@ sep_weaken_true preds k x y = record {
       forced_monotone (bodies preds.list) (length preds.list) x env n n (length preds.list) r1 r (le_refl n) (extends_left j) hx;
 }
 
+wand_i_true : (preds : Preds) (k : ℕ) (x y z : Formula) → IsTrueEntailment preds k (Sep x y) z → IsTrueEntailment preds k x (Wand y z)
+wand_i_true preds k x y z f = record {
+  holds = λ env len n r h m le s c j hy.
+      let below = forced_monotone (bodies preds.list) (length preds.list) x env n m (length preds.list) r r le (extends_refl r) h in
+      f.holds env len m c (r, s, j, below, hy);
+}
+
+wand_e_true : (preds : Preds) (k : ℕ) (x y z : Formula) → IsTrueEntailment preds k x (Wand y z) → IsTrueEntailment preds k (Sep x y) z
+wand_e_true preds k x y z f = record {
+  holds = λ env len n r h.
+      let (r1, r2, j, hx, hy) = h in
+      f.holds env len n r1 hx n (le_refl n) r2 r j hy;
+}
+
 -- ---- the rules over lines
 
 -- an entailment of these sides is one of those
@@ -71,6 +84,12 @@ shape_true preds k SepMono (a ∷ b ∷ []) e s t = along preds k (Sep a.left b.
 shape_true preds k SepMono (a ∷ b ∷ c ∷ ps) e s t = absurd s
 shape_true preds k SepComm ps e (p, q, s, d) t = along preds k (Sep p q) (Sep q p) e.left e.right (s ∙ view_sep p q) (d ∙ view_sep q p) (sep_comm_true preds k p q)
 shape_true preds k SepWeaken ps e (q, s) t = along preds k (Sep e.right q) e.right e.left e.right (s ∙ view_sep e.right q) (λ i. e.right) (sep_weaken_true preds k e.right q)
+shape_true preds k WandI [] e s t = absurd s
+shape_true preds k WandI (a ∷ []) e (q, s, d) t = along preds k e.left (Wand q a.right) e.left e.right (λ i. e.left) (d ∙ view_wand q a.right) (wand_i_true preds k e.left q a.right (along preds k a.left a.right (Sep e.left q) a.right (sym (s ∙ view_sep e.left q)) (λ i. a.right) t.0))
+shape_true preds k WandI (a ∷ b ∷ ps) e s t = absurd s
+shape_true preds k WandE [] e s t = absurd s
+shape_true preds k WandE (a ∷ []) e (q, s, d) t = along preds k (Sep a.left q) e.right e.left e.right (s ∙ view_sep a.left q) (λ i. e.right) (wand_e_true preds k a.left q e.right (along preds k a.left a.right a.left (Wand q e.right) (λ i. a.left) (sym (d ∙ view_wand q e.right)) t.0))
+shape_true preds k WandE (a ∷ b ∷ ps) e s t = absurd s
 
 -- premises that are true over their own variables are true over the conclusion's
 at_conclusion : (preds : Preds) (k : ℕ) (ps : List Entail) → AllByRecursion (λ (p : Entail). p.vars ≡ k) ps → AllByRecursion (λ (p : Entail). TrueAt preds p.vars p) ps → AllByRecursion (TrueAt preds k) ps

@@ -1,5 +1,5 @@
 -- Each proof line of a derivation is true.
-use Rattle.std.proofs.Common.{◌≡◌, ◌⊎◌, ℕ, zero, suc, ◌+◌, ◌<◌, ◌≤◌, List, [], ◌∷◌, ◌++◌, length, take, refl, sym, ◌∙◌, ap, subst, arith, Option, Some, None, inl, inr}
+use Rattle.std.proofs.Common.{◌≡◌, ℕ, zero, suc, List, [], ◌∷◌, ◌++◌, length, take, refl, sym, subst, Option, Some, None}
 use Rattle.std.specs.Prelude.{slice_get, option_map, MatchOption}
 use Rattle.std.specs.List.{AllByRecursion}
 use Rattle.pm_logic.specs.Scope.{no_predicates}
@@ -7,7 +7,7 @@ use Rattle.pm_rules.specs.declared.rules.Rule.{Rule}
 use Rattle.pm_rules.specs.declared.rules.Entail.{Entail}
 use Rattle.pm_rules.specs.Rules.{RuleOk}
 use Rattle.pm_top.specs.Line.{Line, Step, Qed}
-use Rattle.pm_top.specs.Derivation.{steps, names, proof_line, cited, StepOk, LineOk, Follows, IsDerivation}
+use Rattle.pm_top.specs.Derivation.{steps, names, cited, StepOk, LineOk, Follows, IsDerivation}
 use Rattle.pm_top.specs.Truth.{IsTrueLine, EachIsTrue}
 use Rattle.pm_top.proofs.Rules.{rule_true}
 use Rattle.pm_top.proofs.Fronts.{take_past, take_all, steps_more}

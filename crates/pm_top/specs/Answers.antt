@@ -8,7 +8,6 @@ use Rattle.std.specs.declared.alloc.Global.{Global}
 use Rattle.pm_top.specs.Line.{Line}
 use Rattle.pm_top.specs.Ranges.{IsSmallText}
 use Rattle.pm_top.specs.Derivation.{IsDerivation, FailsFirst, statement_count}
-use Rattle.pm_top.specs.Truth.{EachIsTrue}
 use Rattle.pm_top.specs.declared.command.Command.{Command}
 use Rattle.pm_top.specs.declared.command.Command.TheVariants.{Check}
 use Rattle.pm_top.specs.declared.status.Status.{Status}
@@ -43,31 +42,29 @@ usage_line = codes "usage: mosel run | check | session | goals | selftest N" ++ 
 
 -- ---- the answers
 
--- the most bytes that are read
+-- the longest input that is judged
 abbrev pub limit : ℕ
 limit = 16777216
 
 -- what `check` answers to an input, and the line that it writes for it
 pub data Checks (bytes : List ℕ) : Status → List ℕ → Type 0 where
-  accepts : (ls : List Line) → length bytes ≤ limit → IsSmallText bytes ls → IsDerivation ls → EachIsTrue ls → Checks bytes status.Done (accepted_line (statement_count ls))
+  accepts : (ls : List Line) → length bytes ≤ limit → IsSmallText bytes ls → IsDerivation ls → Checks bytes status.Done (accepted_line (statement_count ls))
   refuses : (ls : List Line) (n : ℕ) → length bytes ≤ limit → IsSmallText bytes ls → FailsFirst ls n → Checks bytes status.Refused (refused_line n)
   unreadable : length bytes ≤ limit → ((ls : List Line) → ¬ IsSmallText bytes ls) → Checks bytes status.Unreadable unreadable_line
   too_long : limit < length bytes → Checks bytes status.TooLong too_long_line
-
--- a status that says something of an input
-abbrev pub IsOfInput : Status → Type 0
-IsOfInput status.Done = ⊤
-IsOfInput status.Refused = ⊤
-IsOfInput status.Unreadable = ⊤
-IsOfInput status.TooLong = ⊤
-IsOfInput _ = ⊥
 
 -- a fact of the input, where it is told
 abbrev pub IfTold : Option (List ℕ) → (List ℕ → Type 0) → Type 0
 IfTold None P = ⊤
 IfTold (Some bytes) P = P bytes
 
+-- what `check` answers to some input, which is the one that is told, where it is told
+pub record DefinesCheck (input : Option (List ℕ)) (s : Status) (text : List ℕ) : Type 0 where
+  pub bytes : List ℕ
+  pub told : IfTold input (λ known. known ≡ bytes)
+  pub checks : Checks bytes s text
+
 -- the status and the line that the words and the input define
 abbrev pub Defines : Option Command → Option (List ℕ) → Status → List ℕ → Type 0
 Defines None input s text = (s ≡ status.Usage) × (text ≡ usage_line)
-Defines (Some Check) input s text = IsOfInput s × IfTold input (λ bytes. Checks bytes s text)
+Defines (Some Check) input s text = DefinesCheck input s text

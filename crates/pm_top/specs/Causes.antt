@@ -20,3 +20,8 @@ pub record HasCause {T E : Type 0} (before now : ℕ) (result : Result T E) : Ty
 pub record SendCause {T : Type 0} (before now : ℕ) (result : Result T SendFault) : Type 0 where
   pub later : before ≤ now
   pub failed : IsErrOf result Write → Rose before now
+
+-- over a call the count never falls, and it rose where the answer is a fault
+pub record Faulted (fault : Type 0) (before now : ℕ) : Type 0 where
+  pub later : before ≤ now
+  pub cause : fault → Rose before now

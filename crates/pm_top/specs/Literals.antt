@@ -6,7 +6,7 @@ use Rattle.pm_logic.specs.declared.formula.Pure.{Pure}
 use Rattle.pm_logic.specs.declared.formula.Pure.TheVariants.{True}
 use Rattle.pm_logic.specs.declared.formula.Formula.{Formula}
 use Rattle.pm_logic.specs.declared.formula.Formula.TheVariants.{Pure as Fact, Pts}
-use Rattle.pm_logic.specs.Trees.{Sep}
+use Rattle.pm_logic.specs.Trees.{Sep, Wand}
 
 abbrev pub IsI64 : ℤ → Type 0
 IsI64 (pos n) = n < 2 ^ 63
@@ -21,4 +21,5 @@ PureLiteralsFit True = Unit {0}
 unfoldable pub LiteralsFit : Formula → Type 0
 LiteralsFit (Fact a) = PureLiteralsFit a
 LiteralsFit (Sep p q) = LiteralsFit p × LiteralsFit q
+LiteralsFit (Wand p q) = LiteralsFit p × LiteralsFit q
 LiteralsFit (Pts l u v) = TermLiteralsFit l × TermLiteralsFit v

@@ -12,13 +12,13 @@ use Rattle.pm_logic.specs.declared.formula.Formula.TheVariants.{Pure as Fact, Pt
 use Rattle.pm_logic.specs.declared.formula.Formula.TheViews as view
 use Rattle.pm_logic.specs.declared.formula.TheConstants.{UNIT}
 use Rattle.pm_rules.specs.declared.rules.Rule.{Rule}
-use Rattle.pm_rules.specs.declared.rules.Rule.TheVariants.{Refl, Trans, True, SepMono, SepComm, SepWeaken}
+use Rattle.pm_rules.specs.declared.rules.Rule.TheVariants.{Refl, Trans, True, SepMono, SepComm, SepWeaken, WandI, WandE}
 use Rattle.pm_rules.specs.declared.rules.Entail.{Entail}
 use Rattle.pm_rules.specs.Rules.{premise_count}
 use Rattle.pm_top.specs.declared.fault.Fault.{Fault}
 use Rattle.pm_top.specs.declared.fault.Fault.TheVariants.{Syntax, Deep}
-use Rattle.pm_top.specs.declared.fault.ReadFault.{ReadFault}
-use Rattle.pm_top.specs.declared.fault.ReadFault.TheVariants as faults
+use Rattle.pm_top.specs.declared.fault.LineFault.{LineFault}
+use Rattle.pm_top.specs.declared.fault.LineFault.TheVariants as faults
 use Rattle.pm_top.specs.Line.{Line, Step, Qed}
 use Rattle.pm_top.specs.Ranges.{is_name}
 
@@ -27,12 +27,12 @@ abbrev pub ◌>>=◌ : {A B : Type 0} → Result A Fault → (A → Result B Fau
 (Ok x) >>= f = f x
 (Err e) >>= f = Err e
 
-abbrev pub Fails : {Y : Type 0} → ReadFault → Result Y Fault → Type 0
+abbrev pub Fails : {Y : Type 0} → LineFault → Result Y Fault → Type 0
 Fails faults.Memory read = Unit {0}
 Fails (faults.Fault f) read = read ≡ Err f
 
 -- what a function returned, seen by view, is what reading gives, unless memory ran out
-abbrev pub Gives : {X Y : Type 0} → (X → Y) → Result X ReadFault → Result Y Fault → Type 0
+abbrev pub Gives : {X Y : Type 0} → (X → Y) → Result X LineFault → Result Y Fault → Type 0
 Gives view (Ok x) read = read ≡ Ok (view x)
 Gives view (Err e) read = Fails e read
 
@@ -124,21 +124,28 @@ points_at levels bytes = do
   val ← term_at levels c
   Ok (Pts loc.0 units.0 val.0, val.1)
 
--- behind `sep`, where inner reads either side
-unfoldable pub star_at : (List ℕ → Result (Formula × List ℕ) Fault) → List ℕ → Result (Formula × List ℕ) Fault
-star_at inner bytes = do
+-- both sides behind a sign, where inner reads either
+unfoldable pub sides_of : (List ℕ → Result (Formula × List ℕ) Fault) → List ℕ → Result (Formula × Formula × List ℕ) Fault
+sides_of inner bytes = do
   a ← skip_at 32 bytes
   p ← inner a
   b ← skip_at 32 p.1
   q ← inner b
-  Ok (view.Sep p.0 q.0, q.1)
+  Ok (p.0, q.0, q.1)
+
+-- behind a sign, where make is the formula of its two sides
+unfoldable pub two_at : (Formula → Formula → Formula) → (List ℕ → Result (Formula × List ℕ) Fault) → List ℕ → Result (Formula × List ℕ) Fault
+two_at make inner bytes = do
+  sides ← sides_of inner bytes
+  Ok (make sides.0 sides.1, sides.2)
 
 -- where inner reads the formulas in it, and levels is how many are left below its word
 unfoldable pub formula_with : ℕ → (List ℕ → Result (Formula × List ℕ) Fault) → List ℕ → Result (Formula × List ℕ) Fault
 formula_with levels inner bytes =
     if bytes_eq (word bytes) (codes "pure") then (skip_at 32 (after bytes) >>= λ a. truth_at levels a)
     else if bytes_eq (word bytes) (codes "pts") then points_at levels (after bytes)
-    else if bytes_eq (word bytes) (codes "sep") then star_at inner (after bytes)
+    else if bytes_eq (word bytes) (codes "sep") then two_at view.Sep inner (after bytes)
+    else if bytes_eq (word bytes) (codes "wand") then two_at view.Wand inner (after bytes)
     else Err (Syntax (length bytes))
 
 unfoldable pub formula_at : ℕ → List ℕ → Result (Formula × List ℕ) Fault
@@ -155,6 +162,8 @@ rule_of w =
     else if bytes_eq w (codes "sep-mono") then Some SepMono
     else if bytes_eq w (codes "sep-comm") then Some SepComm
     else if bytes_eq w (codes "sep-weaken") then Some SepWeaken
+    else if bytes_eq w (codes "wand-i") then Some WandI
+    else if bytes_eq w (codes "wand-e") then Some WandE
     else None
 
 unfoldable pub rule_at : List ℕ → Result (Rule × List ℕ) Fault

@@ -7,9 +7,9 @@ use Rattle.pm_logic.specs.declared.formula.Pure.{Pure}
 use Rattle.pm_logic.specs.declared.formula.Pure.TheVariants as pure
 use Rattle.pm_logic.specs.declared.formula.Formula.{Formula}
 use Rattle.pm_logic.specs.declared.formula.Formula.TheVariants.{Pure as Fact, Pts}
-use Rattle.pm_logic.specs.Trees.{Sep}
+use Rattle.pm_logic.specs.Trees.{Sep, Wand}
 use Rattle.pm_rules.specs.declared.rules.Rule.{Rule}
-use Rattle.pm_rules.specs.declared.rules.Rule.TheVariants.{Refl, Trans, True, SepMono, SepComm, SepWeaken}
+use Rattle.pm_rules.specs.declared.rules.Rule.TheVariants.{Refl, Trans, True, SepMono, SepComm, SepWeaken, WandI, WandE}
 use Rattle.pm_rules.specs.declared.rules.Entail.{Entail}
 use Rattle.pm_top.specs.Line.{Line, Step, Qed}
 
@@ -24,6 +24,7 @@ pure_text pure.True rest = codes "T" ++ rest
 unfoldable pub formula_text : Formula → List ℕ → List ℕ
 formula_text (Fact a) rest = codes "pure " ++ pure_text a rest
 formula_text (Sep p q) rest = codes "sep " ++ formula_text p (32 ∷ formula_text q rest)
+formula_text (Wand p q) rest = codes "wand " ++ formula_text p (32 ∷ formula_text q rest)
 formula_text (Pts l u v) rest = codes "pts " ++ term_text l (32 ∷ (decimal u ++ (32 ∷ term_text v rest)))
 
 -- ---- lines
@@ -35,6 +36,8 @@ rule_name True = codes "true"
 rule_name SepMono = codes "sep-mono"
 rule_name SepComm = codes "sep-comm"
 rule_name SepWeaken = codes "sep-weaken"
+rule_name WandI = codes "wand-i"
+rule_name WandE = codes "wand-e"
 
 -- a citation, where there is one
 abbrev pub cite_text : Option ℕ → List ℕ → List ℕ

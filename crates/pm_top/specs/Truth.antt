@@ -1,11 +1,15 @@
 -- The truth of proof lines in the model.
-use Rattle.std.specs.Prelude.{List}
+use Rattle.std.specs.Prelude.{ℕ, List}
 use Rattle.std.specs.List.{AllByRecursion}
+use Rattle.pm_logic.specs.declared.formula.Preds.{Preds}
 use Rattle.pm_logic.specs.Scope.{no_predicates}
 use Rattle.pm_model.specs.Entailment.{IsTrueEntailment}
 use Rattle.pm_rules.specs.declared.rules.Entail.{Entail}
+use Rattle.pm_rules.specs.declared.rules.Rule.{Rule}
+use Rattle.pm_rules.specs.Rules.{RuleOk}
 use Rattle.pm_top.specs.Line.{Line}
-use Rattle.pm_top.specs.Derivation.{steps}
+use Rattle.pm_top.specs.Ranges.{IsSmallText}
+use Rattle.pm_top.specs.Derivation.{steps, IsDerivation}
 
 abbrev pub IsTrueLine : Entail → Type 0
 IsTrueLine e = IsTrueEntailment no_predicates e.vars e.left e.right
@@ -13,3 +17,17 @@ IsTrueLine e = IsTrueEntailment no_predicates e.vars e.left e.right
 -- each proof line, statement or not, is true at every step, in every environment, by every resource
 abbrev pub EachIsTrue : List Line → Type 0
 EachIsTrue ls = AllByRecursion IsTrueLine (steps ls)
+
+-- whatever lines the bytes are, each of them is true
+pub record SaysTruth (bytes : List ℕ) : Type 0 where
+  pub each : (ls : List Line) → IsSmallText bytes ls → EachIsTrue ls
+
+-- ---- laws
+
+-- a rule leads from true premises to a true conclusion, under every table and in any number of variables
+abbrev pub RulesAreTrue : Type 0
+RulesAreTrue = (preds : Preds) (rule : Rule) (ps : List Entail) (e : Entail) → RuleOk rule ps e → AllByRecursion (λ (p : Entail). IsTrueEntailment preds p.vars p.left p.right) ps → IsTrueEntailment preds e.vars e.left e.right
+
+-- each line of a derivation is true
+abbrev pub DerivationsAreTrue : Type 0
+DerivationsAreTrue = (ls : List Line) → IsDerivation ls → EachIsTrue ls

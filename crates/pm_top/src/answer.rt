@@ -2,7 +2,7 @@
 
 ghost use Rattle.std.specs.Prelude.{◌≡◌, ◌≤◌, length, IfOk};
 ghost use Rattle.std.specs.String.{string_bytes};
-ghost use Rattle.pm_top.specs.Answers.{accepted_line, refused_line, Checks, IsOfInput};
+ghost use Rattle.pm_top.specs.Answers.{accepted_line, refused_line, Checks};
 
 use crate::judge::{Verdict, judge};
 use crate::status::Status;
@@ -25,8 +25,7 @@ fn refused(alloc: Global, line: u64) -> Result<String, Memory>
 #[tactic(auto, using(crate::proofs::Answering::accepted, crate::proofs::Answering::refused, crate::proofs::Answering::unreadable_text))]
 pub fn check(alloc: Global, bytes: &[u8]) -> Result<(Status, String), Memory>
     requires { length bytes.now ≤ 16777216 }
-    ensures status { IfOk result (λ x. IsOfInput x.0) }
-    ensures answer { IfOk result (λ x. Checks bytes.now x.0 (string_bytes x.1)) }
+    ensures { IfOk result (λ x. Checks bytes.now x.0 (string_bytes x.1)) }
 {
     match judge(alloc, bytes)? {
         Verdict::Accepted(count) => Ok((Status::Done, accepted(alloc, count)?)),

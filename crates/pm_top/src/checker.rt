@@ -1,11 +1,11 @@
 //! Whether lines are a derivation, one line after another.
 
-ghost use Rattle.std.specs.Prelude.{◌≡◌, ◌↔◌, IsTrue, not, MatchOption, IfOk, []};
-ghost use Rattle.std.specs.Option.{option_copied};
+ghost use Rattle.std.specs.Prelude.{◌≡◌, ◌↔◌, IsTrue, not, Some, None, MatchOption, IfOk, []};
+ghost use Rattle.std.specs.Option.{option_copied, option_to_list};
 ghost use Rattle.std.specs.Bool.{OnTrue};
 ghost use Rattle.std.specs.HashSet.{hash_set_len};
 ghost use Rattle.pm_top.specs.Names.{Adds, has_name};
-ghost use Rattle.pm_top.specs.Derivation.{proof_line, StepOk, IsStatement};
+ghost use Rattle.pm_top.specs.Derivation.{proof_line, cited, StepOk, IsStatement};
 
 use crate::lines::ReadLine;
 use pm_logic::{Formula, Memory, Preds, Pure};
@@ -23,6 +23,19 @@ fn proof_line(steps: &[Entail], number: u64) -> Option<&Entail>
     steps.get((number - 1) as usize)
 }
 
+/// The premise that a citation gives, if it is one: `None` where there is no such proof line.
+fn cited(steps: &[Entail], number: Option<u64>) -> Option<Option<&Entail>>
+    ensures { MatchOption result (cited steps.now number ≡ None) (λ premise. cited steps.now number ≡ Some (option_to_list (option_copied premise))) }
+{
+    match number {
+        None => Some(None),
+        Some(number) => match proof_line(steps, number) {
+            None => None,
+            Some(e) => Some(Some(e)),
+        },
+    }
+}
+
 /// Whether what is cited is there and the rule leads from it to the entailment.
 fn step_ok(
     preds: &Preds,
@@ -34,21 +47,10 @@ fn step_ok(
 ) -> bool
     ensures { IsTrue result ↔ StepOk steps.now rule.now first second entail.now }
 {
-    let first = match first {
-        None => None,
-        Some(number) => match proof_line(steps, number) {
-            None => return false,
-            Some(e) => Some(e),
-        },
-    };
-    let second = match second {
-        None => None,
-        Some(number) => match proof_line(steps, number) {
-            None => return false,
-            Some(e) => Some(e),
-        },
-    };
-    rule_ok(preds, rule, first, second, entail).is_ok()
+    match (cited(steps, first), cited(steps, second)) {
+        (Some(first), Some(second)) => rule_ok(preds, rule, first, second, entail).is_ok(),
+        _ => false,
+    }
 }
 
 /// Whether the line is a statement.

@@ -1,7 +1,7 @@
 //! Why a text could not be read.
 
 ghost use Rattle.std.specs.Prelude.{◌≡◌};
-ghost use Rattle.pm_top.specs.declared.fault.ReadFault.TheVariants as faults;
+ghost use Rattle.pm_top.specs.declared.fault.LineFault.TheVariants as faults;
 
 use pm_logic::Memory;
 use std::alloc::AllocError;
@@ -17,31 +17,31 @@ pub enum Fault {
 
 /// Why a reader that takes memory gave up.
 #[derive(Clone, Copy, Debug, PartialEq, Eq)]
-pub enum ReadFault {
+pub enum LineFault {
     Memory,
     Fault(Fault),
 }
 
-impl From<AllocError> for ReadFault {
+impl From<AllocError> for LineFault {
     ghost from_gives = { λ _ e. e ≡ faults.Memory };
 
-    fn from(_e: AllocError) -> ReadFault {
-        ReadFault::Memory
+    fn from(_e: AllocError) -> LineFault {
+        LineFault::Memory
     }
 }
 
-impl From<Memory> for ReadFault {
+impl From<Memory> for LineFault {
     ghost from_gives = { λ _ e. e ≡ faults.Memory };
 
-    fn from(_e: Memory) -> ReadFault {
-        ReadFault::Memory
+    fn from(_e: Memory) -> LineFault {
+        LineFault::Memory
     }
 }
 
-impl From<Fault> for ReadFault {
+impl From<Fault> for LineFault {
     ghost from_gives = { λ f e. e ≡ faults.Fault f };
 
-    fn from(fault: Fault) -> ReadFault {
-        ReadFault::Fault(fault)
+    fn from(fault: Fault) -> LineFault {
+        LineFault::Fault(fault)
     }
 }

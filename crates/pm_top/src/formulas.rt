@@ -1,9 +1,9 @@
 //! Terms and formulas. Each reader takes how many levels there may be.
 
 ghost use Rattle.std.specs.Prelude.{◌≡◌};
-ghost use Rattle.pm_top.specs.Reading.{Reads, Gives, term_at, truth_at, units_at, points_at, formula_at};
+ghost use Rattle.pm_top.specs.Reading.{Reads, Gives, term_at, truth_at, units_at, points_at, sides_of, formula_at};
 
-use crate::fault::{Fault, ReadFault};
+use crate::fault::{Fault, LineFault};
 use crate::words::{expect, is_text, literal_of, number, skip, word_of};
 use pm_logic::{Formula, Pure, Term, UNIT};
 use sqlite_items::Boxed;
@@ -57,13 +57,29 @@ fn points(levels: u32, bytes: &[u8]) -> Result<(Formula, &[u8]), Fault>
     Ok((Formula::Pts { loc, units, val }, rest))
 }
 
+/// Both sides behind a sign.
+#[cycle(formula)]
+#[tactic(auto, unfolding(crate::specs::Reading::sides_of))]
+fn sides(
+    alloc: Global,
+    levels: u32,
+    bytes: &[u8],
+) -> Result<(Boxed<Formula>, Boxed<Formula>, &[u8]), LineFault>
+    ensures { Gives (λ x. (x.0, x.1, x.2.now)) result (sides_of (formula_at levels) bytes.now) }
+{
+    let (left, rest) = formula(alloc, levels, skip(b' ', bytes)?)?;
+    let (right, rest) = formula(alloc, levels, skip(b' ', rest)?)?;
+    Ok((Boxed::new(alloc, left)?, Boxed::new(alloc, right)?, rest))
+}
+
 /// The formula at the front, and what follows it.
-#[tactic(auto, using(crate::proofs::Levels::formula_none, crate::proofs::Levels::formula_more), unfolding(crate::specs::Reading::formula_with, crate::specs::Reading::star_at))]
-pub fn formula(alloc: Global, levels: u32, bytes: &[u8]) -> Result<(Formula, &[u8]), ReadFault>
+#[cycle(formula)]
+#[tactic(auto, using(crate::proofs::Levels::formula_none, crate::proofs::Levels::formula_more), unfolding(crate::specs::Reading::formula_with, crate::specs::Reading::two_at))]
+pub fn formula(alloc: Global, levels: u32, bytes: &[u8]) -> Result<(Formula, &[u8]), LineFault>
     ensures { Gives (λ x. (x.0, x.1.now)) result (formula_at levels bytes.now) }
 {
     if levels == 0 {
-        return Err(ReadFault::Fault(Fault::Deep(bytes.len())));
+        return Err(LineFault::Fault(Fault::Deep(bytes.len())));
     }
     let (word, rest) = word_of(bytes);
     if is_text(word, "pure") {
@@ -71,12 +87,12 @@ pub fn formula(alloc: Global, levels: u32, bytes: &[u8]) -> Result<(Formula, &[u
     } else if is_text(word, "pts") {
         Ok(points(levels - 1, rest)?)
     } else if is_text(word, "sep") {
-        let (left, rest) = formula(alloc, levels - 1, skip(b' ', rest)?)?;
-        let (right, rest) = formula(alloc, levels - 1, skip(b' ', rest)?)?;
-        let left = Boxed::new(alloc, left)?;
-        let right = Boxed::new(alloc, right)?;
+        let (left, right, rest) = sides(alloc, levels - 1, rest)?;
         Ok((Formula::Sep(left, right), rest))
+    } else if is_text(word, "wand") {
+        let (left, right, rest) = sides(alloc, levels - 1, rest)?;
+        Ok((Formula::Wand(left, right), rest))
     } else {
-        Err(ReadFault::Fault(Fault::Syntax(bytes.len())))
+        Err(LineFault::Fault(Fault::Syntax(bytes.len())))
     }
 }

@@ -7,7 +7,7 @@ ghost use Rattle.pm_top.specs.Ranges.{IsSmallText};
 ghost use Rattle.pm_top.specs.Verdicts.{AreLines, Judges, TakesNext};
 
 use crate::checker::Accepted;
-use crate::fault::ReadFault;
+use crate::fault::LineFault;
 use crate::lines::{ReadLine, header, line};
 use pm_logic::Memory;
 use std::alloc::Global;
@@ -61,8 +61,8 @@ fn judge_lines(alloc: Global, bytes: &[u8]) -> Result<Verdict, Memory>
     while !rest.is_empty() {
         let (line, after) = match line(alloc, number, rest) {
             Ok(read) => read,
-            Err(ReadFault::Memory) => return Err(Memory),
-            Err(ReadFault::Fault(_)) => return Ok(Verdict::Unreadable),
+            Err(LineFault::Memory) => return Err(Memory),
+            Err(LineFault::Fault(_)) => return Ok(Verdict::Unreadable),
         };
         number = next_number(number, &line);
         failed = take(&mut accepted, failed, line)?;

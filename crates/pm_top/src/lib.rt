@@ -7,6 +7,7 @@ mod command;
 mod fault;
 mod formulas;
 mod judge;
+mod laws;
 mod lines;
 mod memory;
 mod program;
@@ -16,6 +17,7 @@ mod standard;
 mod status;
 mod words;
 
+pub use laws::{derivations_are_true, rules_are_true};
 pub use memory::{MemSink, MemSource, SureSource};
 pub use program::top;
 pub use sink::{SendFault, Sink, write_all};
@@ -25,3 +27,5 @@ pub use status::Status;
 
 #[cfg(test)]
 mod device_tests;
+#[cfg(test)]
+mod tests;

@@ -4,7 +4,7 @@ ghost use Rattle.std.specs.Prelude.{◌≡◌};
 ghost use Rattle.pm_top.specs.Reading.{Reads, Gives, cite_at, sides_at, step_at, qed_at, line_at, header_at};
 ghost use Rattle.pm_top.specs.ReadLine.{line_of};
 
-use crate::fault::{Fault, ReadFault};
+use crate::fault::{Fault, LineFault};
 use crate::formulas::formula;
 use crate::words::{expect, expect_number, is_text, name, number, rule, skip, word_of};
 use pm_rules::{Entail, Rule, premise_count};
@@ -40,7 +40,7 @@ fn cite(wanted: bool, bytes: &[u8]) -> Result<(Option<u64>, &[u8]), Fault>
 
 /// Both sides of an entailment with no variables.
 #[tactic(auto, unfolding(crate::specs::Reading::sides_at))]
-fn sides(alloc: Global, bytes: &[u8]) -> Result<(Entail, &[u8]), ReadFault>
+fn sides(alloc: Global, bytes: &[u8]) -> Result<(Entail, &[u8]), LineFault>
     ensures { Gives (λ x. (x.0, x.1.now)) result (sides_at bytes.now) }
 {
     let (left, rest) = formula(alloc, 1000, skip(b' ', bytes)?)?;
@@ -55,7 +55,7 @@ fn sides(alloc: Global, bytes: &[u8]) -> Result<(Entail, &[u8]), ReadFault>
 
 /// The proof line of this number.
 #[tactic(auto, unfolding(crate::specs::Reading::step_at))]
-fn step(alloc: Global, number: u64, bytes: &[u8]) -> Result<(ReadLine, &[u8]), ReadFault>
+fn step(alloc: Global, number: u64, bytes: &[u8]) -> Result<(ReadLine, &[u8]), LineFault>
     ensures { Gives (λ x. (line_of x.0, x.1.now)) result (step_at number bytes.now) }
 {
     let rest = expect_number(number, bytes)?;
@@ -92,7 +92,7 @@ pub fn line<'a>(
     alloc: Global,
     number: u64,
     bytes: &'a [u8],
-) -> Result<(ReadLine<'a>, &'a [u8]), ReadFault>
+) -> Result<(ReadLine<'a>, &'a [u8]), LineFault>
     ensures { Gives (λ x. (line_of x.0, x.1.now)) result (line_at number bytes.now) }
 {
     let (word, rest) = word_of(bytes);

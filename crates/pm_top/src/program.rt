@@ -1,10 +1,11 @@
 //! All that the program does.
 
-ghost use Rattle.std.specs.Prelude.{◌≡◌, ◌≤◌};
+ghost use Rattle.std.specs.Prelude.{◌≡◌, Some, None};
 ghost use Rattle.std.specs.Io.KnownBytes.{Appends};
-ghost use Rattle.pm_top.specs.Causes.{Rose};
+ghost use Rattle.pm_top.specs.Causes.{Faulted};
 ghost use Rattle.pm_top.specs.Taken.{AppendsFront};
-ghost use Rattle.pm_top.specs.Answers.{command_of};
+ghost use Rattle.pm_top.specs.Answers.{command_of, IfTold};
+ghost use Rattle.pm_top.specs.Truth.{SaysTruth};
 ghost use Rattle.pm_top.specs.Leaves.{IsAnswer, Leaves, IsDefined, IsReadToEnd};
 
 use crate::answer::check;
@@ -17,9 +18,8 @@ use std::alloc::Global;
 /// Writes the line of an answer.
 fn say<K: Sink>(sink: &mut K, status: Status, line: &str) -> Status
     requires { IsAnswer status }
-    ensures later { K.faults sink.old ≤ K.faults sink.new }
     ensures not_read { result ≡ Status.ReadFault → ⊥ }
-    ensures write { result ≡ Status.WriteFault → Rose (K.faults sink.old) (K.faults sink.new) }
+    ensures write { Faulted (result ≡ Status.WriteFault) (K.faults sink.old) (K.faults sink.new) }
     ensures whole { IsAnswer result → (result ≡ status) × Appends (K.written sink.old) (K.written sink.new) line.now }
     ensures front { (IsAnswer result → ⊥) → AppendsFront (K.written sink.old) (K.written sink.new) line.now }
 {
@@ -35,8 +35,8 @@ fn say<K: Sink>(sink: &mut K, status: Status, line: &str) -> Status
 fn run_check<S: Source, K: Sink>(alloc: Global, source: &mut S, sink: &mut K) -> Status
     ensures output { Leaves (Some Command.Check) (S.left source.old) (K.written sink.old) (K.written sink.new) result }
     ensures end { result ≡ Status.Done → IsReadToEnd (S.left source.old) (S.left source.new) }
-    ensures read { result ≡ Status.ReadFault → Rose (S.faults source.old) (S.faults source.new) }
-    ensures write { result ≡ Status.WriteFault → Rose (K.faults sink.old) (K.faults sink.new) }
+    ensures read { Faulted (result ≡ Status.ReadFault) (S.faults source.old) (S.faults source.new) }
+    ensures write { Faulted (result ≡ Status.WriteFault) (K.faults sink.old) (K.faults sink.new) }
 {
     let bytes = match read_all(alloc, source, 16_777_216) {
         Ok(bytes) => bytes,
@@ -50,22 +50,30 @@ fn run_check<S: Source, K: Sink>(alloc: Global, source: &mut S, sink: &mut K) ->
     }
 }
 
-/// Does all that the program does. `words` are the words of the command line after the program's name. The answer is
-/// the status that the program ends with. What was written is then the line of that status, whole; after `WriteFault`
-/// and `Memory` it is a front of the line that the words and the input define, and after `ReadFault` nothing.
-#[tactic(auto, using(crate::proofs::Leaving::leaves, crate::proofs::Leaving::is_defined))]
+/// Does all that the program does. `words` are the words of the command line after the program's name; `source` is read
+/// and `sink` written. The answer is the status that the program ends with, and what was written then is the whole line
+/// of that status. `Done` says that the input was read to its end and that each line of it is true. Where the words name
+/// no command nothing is read. After `WriteFault` and `Memory` a front of the line that the words and the input define
+/// was written, or nothing, and after `ReadFault` nothing.
 pub fn top<S: Source, K: Sink>(
     alloc: Global,
     words: &Vec<String>,
     source: &mut S,
     sink: &mut K,
 ) -> Status
+    // Each answer has its cause, and the sink holds what it defines.
     ensures output { Leaves (command_of words.now.items) (S.left source.old) (K.written sink.old) (K.written sink.new) result }
+
+    // Each cause has its answer, unless a device fails or memory is wanting.
     ensures defined { IsDefined (command_of words.now.items) (S.left source.old) (K.written sink.old) (K.written sink.new) result }
-    ensures usage { result ≡ Status.Usage → source.new ≡ source.old }
+
+    // What is accepted is true, and was read to its end.
+    ensures truth { result ≡ Status.Done → IfTold (S.left source.old) SaysTruth }
     ensures end { result ≡ Status.Done → IsReadToEnd (S.left source.old) (S.left source.new) }
-    ensures read { result ≡ Status.ReadFault → Rose (S.faults source.old) (S.faults source.new) }
-    ensures write { result ≡ Status.WriteFault → Rose (K.faults sink.old) (K.faults sink.new) }
+
+    ensures unread { command_of words.now.items ≡ None → source.new ≡ source.old }
+    ensures read { Faulted (result ≡ Status.ReadFault) (S.faults source.old) (S.faults source.new) }
+    ensures write { Faulted (result ≡ Status.WriteFault) (K.faults sink.old) (K.faults sink.new) }
 {
     match command_of(words.as_slice()) {
         None => {

@@ -162,6 +162,10 @@ fn rule_of(word: &[u8]) -> Option<Rule>
         Some(Rule::SepComm)
     } else if is_text(word, "sep-weaken") {
         Some(Rule::SepWeaken)
+    } else if is_text(word, "wand-i") {
+        Some(Rule::WandI)
+    } else if is_text(word, "wand-e") {
+        Some(Rule::WandE)
     } else {
         None
     }

@@ -1,4 +1,4 @@
-use Rattle.std.proofs.Common.{◌≡◌, ◌≢◌, [], ◌<◌, ◌^◌, length, rules, arith}
+use Rattle.std.proofs.Common.{◌≡◌, ◌≢◌, [], ◌<◌, ◌^◌, length, arith}
 use Rattle.std.proofs.lemmas.Grind.{common_steps}
 use Rattle.pm_top.proofs.Judging.{progress_end, progress_failed, progress_fault}
 use Rattle.pm_top.proofs.judge.judge_lines.Goals as goal

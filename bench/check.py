@@ -1,0 +1,96 @@
+#!/usr/bin/env python3
+"""Measures `check`: seconds, megabytes a second and peak memory on generated derivations.
+
+Run it at the top of the repository, after the program was built (./mosel does that):
+    python3 bench/check.py
+It writes its inputs to bench/out, which isn't kept, and prints a line for each.
+"""
+
+import itertools
+import os
+import string
+import subprocess
+import sys
+import time
+
+TOP = os.path.dirname(os.path.dirname(os.path.abspath(__file__)))
+PROGRAM = os.path.join(TOP, "crates", "mosel", "out", "mosel")
+OUT = os.path.join(TOP, "bench", "out")
+HEADER = b"mosel-derivation 1\narities\n"
+LIMIT = 16_777_216
+
+
+def swaps():
+    """Proof lines of two points-tos that change places."""
+    for n in itertools.count(1):
+        yield b"%d sep-comm 0 sep pts %d 720720 2 pts 3 5 -4 sep pts 3 5 -4 pts %d 720720 2\n" % (n, n, n)
+
+
+def chains():
+    """Proof lines that cite the lines before them."""
+    yield b"1 refl 0 sep pure T pure T sep pure T pure T\n"
+    for n in itertools.count(2):
+        yield b"%d trans 0 %d 1 sep pure T pure T sep pure T pure T\n" % (n, n - 1)
+
+
+def shortest():
+    """The shortest proof lines, of which the most fit."""
+    for n in itertools.count(1):
+        yield b"%d refl 0 pure T pure T\n" % n
+
+
+def statements():
+    """As many statements as fit, each with the shortest name that is left."""
+    yield b"1 refl 0 pure T pure T\n"
+    first = string.ascii_letters + "_"
+    later = first + string.digits + "'"
+    for length in itertools.count(1):
+        for head in first:
+            for tail in itertools.product(later, repeat=length - 1):
+                name = head + "".join(tail)
+                if name not in ("forall", "exists", "emp", "True", "False"):
+                    yield b"qed %s 1\n" % name.encode()
+
+
+def generate(kind, size, path):
+    """Writes the text line by line: a process that is started counts what its parent held as its own peak."""
+    left = size - len(HEADER)
+    with open(path, "wb") as target:
+        target.write(HEADER)
+        for line in kind():
+            if len(line) > left:
+                break
+            target.write(line)
+            left -= len(line)
+    return size - left
+
+
+def measure(path):
+    with open(path, "rb") as source:
+        start = time.monotonic()
+        process = subprocess.Popen([PROGRAM, "check"], stdin=source, stdout=subprocess.PIPE)
+        answer = process.stdout.read().decode().strip()
+        _, status, usage = os.wait4(process.pid, 0)
+        seconds = time.monotonic() - start
+    return answer, os.waitstatus_to_exitcode(status), seconds, usage.ru_maxrss * 1024
+
+
+def main():
+    if not os.path.exists(PROGRAM):
+        sys.exit("build the program first: ./mosel check < examples/swap.derivation")
+    os.makedirs(OUT, exist_ok=True)
+    print(f"{'input':<12} {'MB':>6} {'seconds':>8} {'MB/s':>7} {'peak MB':>8} {'times':>6}  answer")
+    for kind in (swaps, chains, shortest, statements):
+        for size in (1_000_000, 4_000_000, LIMIT):
+            path = os.path.join(OUT, f"{kind.__name__}-{size}")
+            length = generate(kind, size, path)
+            answer, status, seconds, peak = measure(path)
+            mb = length / 1e6
+            print(
+                f"{kind.__name__:<12} {mb:>6.1f} {seconds:>8.3f} {mb / seconds:>7.1f} {peak / 1e6:>8.1f}"
+                f" {peak / length:>6.1f}  {answer} ({status})"
+            )
+
+
+if __name__ == "__main__":
+    main()

@@ -1,0 +1,281 @@
+use super::*;
+use pm_logic::{Formula, List, Memory, Name, Preds, Term, copy_name, same, scoped};
+use std::alloc::Global;
+use std::process::Abort;
+use std::test::Fail;
+
+const HEADER: &str = "mosel-derivation 1\narities\n";
+
+fn words(alloc: Global, text: &str) -> Result<Vec<String>, Memory> {
+    let mut words = Vec::new(alloc);
+    for word in text.split_whitespace() {
+        words.push(String::from_str(alloc, word)?)?;
+    }
+    Ok(words)
+}
+
+/// Runs `check` on the text over memory that never fails, and compares the status and what is written.
+fn checks(
+    rt: &impl Abort,
+    alloc: Global,
+    text: &[u8],
+    status: Status,
+    line: &str,
+) -> Result<(), Memory> {
+    let mut source = SureSource::new(alloc, text)?;
+    let mut sink = MemSink::new(alloc, 7, &[])?;
+    let words = words(alloc, "check")?;
+    let got = top(alloc, &words, &mut source, &mut sink);
+    assert_eq!(rt; got, status);
+    assert_eq!(rt; sink.bytes(), line.as_bytes());
+    Ok(())
+}
+
+#[test]
+fn derivations(rt: HostRuntime) -> Result<(), Fail> {
+    let rows = [
+        ("", Status::Done, "accepted: 0 statements\n"),
+        (
+            "1 refl 0 pure T pure T\nqed t 1\n",
+            Status::Done,
+            "accepted: 1 statements\n",
+        ),
+        (
+            "1 sep-comm 0 sep pts 1 720720 2 pts 3 720720 4 sep pts 3 720720 4 pts 1 720720 2\n2 true 0 pure T pure T\nqed t 2\n",
+            Status::Done,
+            "accepted: 1 statements\n",
+        ),
+        (
+            "1 sep-weaken 0 sep pure T pts 1 5 2 pts 1 5 2\n",
+            Status::Refused,
+            "refused: line 1\n",
+        ),
+        (
+            "1 sep-weaken 0 sep pts -1 5 2 pure T pts -1 5 2\n2 true 0 pts -1 5 2 pure T\n3 trans 0 1 2 sep pts -1 5 2 pure T pure T\n4 sep-mono 0 3 2 sep sep pts -1 5 2 pure T pts -1 5 2 sep pure T pure T\n",
+            Status::Done,
+            "accepted: 0 statements\n",
+        ),
+        (
+            "1 trans 0 1 1 pure T pure T\n",
+            Status::Refused,
+            "refused: line 1\n",
+        ),
+        (
+            "1 trans 0 0 2 pure T pure T\n",
+            Status::Refused,
+            "refused: line 1\n",
+        ),
+        (
+            "1 refl 0 pure T pure T\nqed t 2\n",
+            Status::Refused,
+            "refused: line 1\n",
+        ),
+        (
+            "1 refl 0 pure T pure T\nqed t 1\nqed t 1\n2 true 0 pure T pure T\n",
+            Status::Refused,
+            "refused: line 1\n",
+        ),
+        (
+            "1 refl 0 pts 1 1 1 pts 1 1 1\nqed t 1\n",
+            Status::Refused,
+            "refused: line 1\n",
+        ),
+    ];
+    for (body, status, line) in rows {
+        let text = format!(in rt.alloc(); "{HEADER}{body}")?;
+        checks(&rt, rt.alloc(), text.as_bytes(), status, line)?;
+    }
+    Ok(())
+}
+
+#[test]
+fn unreadable(rt: HostRuntime) -> Result<(), Fail> {
+    let rows = [
+        "1 refl 0 pure T pure T\nqed t 1",
+        "1 sep-weaken 0 pure T pure T\nqed\n",
+        "2 refl 0 pure T pure T\n",
+        "01 refl 0 pure T pure T\n",
+        "1 refl 1 pure T pure T\n",
+        "1 refl 0 pts 1 0 1 pure T\n",
+        "1 refl 0 pts 1 720721 1 pure T\n",
+        "1 refl 0 pts -0 1 1 pure T\n",
+        "1 refl 0 pts 9223372036854775808 1 1 pure T\n",
+        "1 refl 0 pts 1 01 1 pure T\n",
+        "1 trans 0 1 18446744073709551616 pure T pure T\n",
+        "1 refl 0 pure  T pure T\n",
+        "1 refl 0 pure T pure T \n",
+        "1 refl 0 pure T pure T\r\n",
+        "qed emp 1\n",
+        "qed 1a 1\n",
+        "qed \u{e4} 1\n",
+        "\n",
+    ];
+    for body in rows {
+        let text = format!(in rt.alloc(); "{HEADER}{body}")?;
+        checks(
+            &rt,
+            rt.alloc(),
+            text.as_bytes(),
+            Status::Unreadable,
+            "unreadable\n",
+        )?;
+    }
+    for text in [b"".as_slice(), b"\xff", b"mosel-derivation 2\narities\n"] {
+        checks(&rt, rt.alloc(), text, Status::Unreadable, "unreadable\n")?;
+    }
+    Ok(())
+}
+
+/// Each proper front of a derivation is one exactly where it ends with a line behind the first two.
+#[test]
+fn cut_anywhere(rt: HostRuntime) -> Result<(), Fail> {
+    let text = format!(in rt.alloc(); "{HEADER}1 refl 0 pure T pure T\nqed t 1\n")?;
+    let bytes = text.as_bytes();
+    assert_eq!(rt; bytes.len(), 58);
+    for end in 0..58usize {
+        let front = &bytes[..end];
+        let whole = end >= 27 && front.ends_with(b"\n");
+        let (status, line) = if whole {
+            (Status::Done, "accepted: 0 statements\n")
+        } else {
+            (Status::Unreadable, "unreadable\n")
+        };
+        checks(&rt, rt.alloc(), front, status, line)?;
+    }
+    Ok(())
+}
+
+fn repeat(text: &mut String, piece: &str, times: usize) -> Result<(), Memory> {
+    for _ in 0..times {
+        text.push_str(piece)?;
+    }
+    Ok(())
+}
+
+/// The derivation of one reflexive line over a formula of this many stars, which is two levels deeper than they are.
+fn stars(alloc: Global, count: usize) -> Result<String, Memory> {
+    let mut text = String::from_str(alloc, HEADER)?;
+    text.push_str("1 refl 0")?;
+    for _ in 0..2 {
+        repeat(&mut text, " sep", count)?;
+        text.push_str(" pure T")?;
+        repeat(&mut text, " pure T", count)?;
+    }
+    text.push_str("\n")?;
+    Ok(text)
+}
+
+#[test]
+fn deep(rt: HostRuntime) -> Result<(), Fail> {
+    let rows = [
+        (998, Status::Done, "accepted: 0 statements\n"),
+        (999, Status::Unreadable, "unreadable\n"),
+    ];
+    for (count, status, line) in rows {
+        let text = stars(rt.alloc(), count)?;
+        checks(&rt, rt.alloc(), text.as_bytes(), status, line)?;
+    }
+    Ok(())
+}
+
+#[test]
+fn a_long_name(rt: HostRuntime) -> Result<(), Fail> {
+    let mut text = format!(in rt.alloc(); "{HEADER}1 refl 0 pure T pure T\nqed ")?;
+    repeat(&mut text, "a", 1_000_000)?;
+    text.push_str(" 1\n")?;
+    let line = "accepted: 1 statements\n";
+    checks(&rt, rt.alloc(), text.as_bytes(), Status::Done, line)?;
+    Ok(())
+}
+
+#[test]
+fn the_longest_input(rt: HostRuntime) -> Result<(), Fail> {
+    let rows = [
+        (16_777_216, Status::Unreadable, "unreadable\n"),
+        (16_777_217, Status::TooLong, "too long\n"),
+    ];
+    for (length, status, line) in rows {
+        let text = vec![in rt.alloc(); b'a'; length]?;
+        checks(&rt, rt.alloc(), &text, status, line)?;
+    }
+    Ok(())
+}
+
+/// Runs the words over memory whose listed calls fail, and compares the status and what is written.
+fn runs(
+    rt: &impl Abort,
+    alloc: Global,
+    words: &Vec<String>,
+    failing: (&[u64], &[u64]),
+    status: Status,
+    written: &str,
+) -> Result<(), Memory> {
+    let mut source = MemSource::new(alloc, HEADER.as_bytes(), failing.0)?;
+    let mut sink = MemSink::new(alloc, 1, failing.1)?;
+    let got = top(alloc, words, &mut source, &mut sink);
+    assert_eq!(rt; got, status);
+    assert_eq!(rt; sink.bytes(), written.as_bytes());
+    Ok(())
+}
+
+#[test]
+fn failing_devices(rt: HostRuntime) -> Result<(), Fail> {
+    let check = words(rt.alloc(), "check")?;
+    runs(&rt, rt.alloc(), &check, (&[2], &[]), Status::ReadFault, "")?;
+    let front = "accepted: ";
+    runs(
+        &rt,
+        rt.alloc(),
+        &check,
+        (&[], &[11]),
+        Status::WriteFault,
+        front,
+    )?;
+    Ok(())
+}
+
+/// The words are looked at before anything is read: a read would fail.
+#[test]
+fn other_words(rt: HostRuntime) -> Result<(), Fail> {
+    let usage = "usage: mosel run | check | session | goals | selftest N\n";
+    for other in ["", "chec", "check check", "session"] {
+        let words = words(rt.alloc(), other)?;
+        runs(&rt, rt.alloc(), &words, (&[1], &[]), Status::Usage, usage)?;
+    }
+    Ok(())
+}
+
+#[test]
+fn names_and_lists(rt: HostRuntime) -> Result<(), Fail> {
+    let name = Name::new(rt.alloc(), "swap")?;
+    let copy = copy_name(rt.alloc(), &name)?;
+    assert_eq!(rt; copy.bytes(), b"swap".as_slice());
+    let mut list = List::new(rt.alloc());
+    list.push(7u8)?;
+    assert_eq!(rt; list.as_slice(), [7].as_slice());
+    Ok(())
+}
+
+fn points(units: u32) -> Formula {
+    Formula::Pts {
+        loc: Term::Lit(1),
+        units,
+        val: Term::Lit(-2),
+    }
+}
+
+fn is_scoped(alloc: Global, units: u32) -> bool {
+    let preds = Preds {
+        list: List::new(alloc),
+    };
+    scoped(&preds, 0, &points(units))
+}
+
+#[test]
+fn scope_and_equality(rt: HostRuntime) {
+    for (units, want) in [(0, false), (1, true), (720_720, true), (720_721, false)] {
+        assert_eq!(rt; is_scoped(rt.alloc(), units), want, "at {units}");
+    }
+    assert!(rt; same(&points(5), &points(5)));
+    assert!(rt; !same(&points(5), &points(6)));
+}
