@@ -29,6 +29,14 @@ impl Name {
         Ok(Name { text })
     }
 
+    /// The name of these bytes.
+    pub fn from_bytes(alloc: Global, text: &[u8]) -> Result<Name, Memory>
+        ensures { IfOk result (λ name. name ≡ text.now) }
+    {
+        let text = Bytes::from_slice(alloc, text)?;
+        Ok(Name { text })
+    }
+
     /// The bytes of its spelling.
     pub fn bytes(&self) -> &[u8]
         ensures { result.now ≡ self.now }

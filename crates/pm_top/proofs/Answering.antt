@@ -1,21 +1,18 @@
 -- What `check` answers to an input: there is one answer, and its lines are true.
-use Rattle.std.proofs.Common.{◌≡◌, ◌≢◌, ◌⊎◌, ℕ, zero, suc, ◌+◌, ◌<◌, ◌≤◌, ◌^◌, List, [], ◌∷◌, ◌++◌, length, take, refl, sym, ◌∙◌, ap, ap₂, subst, subst₂, arith, Option, Some, None, inl, inr, append-nil}
+use Rattle.std.proofs.Common.{◌≡◌, ◌⊎◌, ℕ, ◌<◌, ◌≤◌, List, length, take, refl, sym, ◌∙◌, ap, ap₂, subst, arith, inl, inr}
 use Rattle.std.specs.Prelude.{slice_get}
-use Rattle.std.specs.List.{AllByRecursion}
 use Rattle.pm_top.specs.Line.{Line}
-use Rattle.pm_top.specs.Spelling.{next_number, line_text, lines_text, header_text, text_of}
-use Rattle.pm_top.specs.Ranges.{LineFits, IsSmallText}
-use Rattle.pm_top.specs.Derivation.{steps, names, LineOk, Follows, IsDerivation, FailsFirst, line_number, statement_count}
+use Rattle.pm_top.specs.Ranges.{IsSmallText}
+use Rattle.pm_top.specs.Derivation.{steps, IsDerivation, FailsFirst, line_number, statement_count}
 use Rattle.pm_top.specs.Truth.{EachIsTrue, SaysTruth}
 use Rattle.pm_top.specs.declared.status.Status.{Status}
 use Rattle.pm_top.specs.declared.status.Status.TheVariants as status
-use Rattle.pm_top.specs.declared.judge.Verdict.{Verdict}
 use Rattle.pm_top.specs.declared.judge.Verdict.TheVariants as verdict
 use Rattle.pm_top.specs.Verdicts.{Judges, accepts as judged_accepted, refuses as judged_refused, unreadable as judged_unreadable}
-use Rattle.pm_top.specs.Answers.{accepted_line, refused_line, unreadable_line, Checks, accepts, refuses, unreadable, too_long}
+use Rattle.pm_top.specs.Answers.{accepted_line, refused_line, unreadable_line, Checks, Checks.accepts, Checks.refuses, Checks.unreadable, Checks.too_long}
 use Rattle.pm_top.proofs.Fronts.{some_is}
 use Rattle.pm_top.proofs.Sound.{derivation_true}
-use Rattle.pm_top.proofs.Judging.{number_after, next_close, same_text}
+use Rattle.pm_top.proofs.Judging.{same_text}
 
 -- ---- from a verdict to the answer
 

@@ -1,15 +1,16 @@
 -- What a run leaves at the sink.
-use Rattle.std.proofs.Common.{◌≡◌, ◌⊎◌, ℕ, zero, suc, ◌≤◌, ◌<◌, List, [], ◌∷◌, length, lit<, refl, sym, ◌∙◌, ap, subst, Option, Some, None, inl, inr}
-use Rattle.std.specs.Io.KnownBytes.{Appends, Keeps}
+use Rattle.std.proofs.Common.{◌≡◌, ℕ, zero, suc, ◌<◌, List, [], ◌∷◌, length, lit<, refl, sym, ◌∙◌, ap, subst, Option, Some, None, inr}
+use Rattle.std.specs.Io.KnownBytes.{Appends}
 use Rattle.pm_top.specs.Taken.{TakesAll, HasMoreThan, AppendsFront}
-use Rattle.pm_top.specs.Truth.{SaysTruth}
+use Rattle.pm_top.specs.Truth.{SaysTrue}
 use Rattle.pm_top.specs.declared.command.Command.{Command}
-use Rattle.pm_top.specs.declared.command.Command.TheVariants.{Check}
+use Rattle.pm_top.specs.declared.command.Command.TheVariants.{Check, Run}
 use Rattle.pm_top.specs.declared.status.Status.{Status}
 use Rattle.pm_top.specs.declared.status.Status.TheVariants as status
-use Rattle.pm_top.specs.Answers.{too_long_line, usage_line, Checks, too_long, IfTold, Defines}
-use Rattle.pm_top.specs.Leaves.{IsAnswer, Writes, WritesFront, Leaves, IsDefined}
+use Rattle.pm_top.specs.Answers.{too_long_line, Checks, Runs, Answers, IfTold, Defines}
+use Rattle.pm_top.specs.Leaves.{IsAnswer, Writes, Leaves, DefinesText, IsDefined}
 use Rattle.pm_top.proofs.Answering.{one_answer, done_truth}
+use Rattle.pm_top.proofs.RunAnswers.{one_run_answer, run_truth}
 
 -- ---- what is defined
 
@@ -23,15 +24,19 @@ unfolding long_bytes
 long_length zero = refl
 long_length (suc n) = ap suc (long_length n)
 
-pub defines_long : (input : Option (List ℕ)) → HasMoreThan input 16777216 → Defines (Some Check) input status.TooLong too_long_line
-defines_long None h =
-    let long : 16777216 < length (long_bytes 16777217) = subst (λ (n : ℕ). 16777216 < n) (sym (long_length 16777217)) (lit< tt) in
-    record { bytes = long_bytes 16777217; told = tt; checks = too_long long }
-defines_long (Some bytes) h = record { bytes = bytes; told = refl; checks = too_long h }
+too_long_answer : (command : Command) (bytes : List ℕ) → 16777216 < length bytes → Answers command bytes status.TooLong too_long_line
+too_long_answer Check bytes long = Checks.too_long long
+too_long_answer Run bytes long = Runs.too_long long
 
-pub defines_check : (input left : Option (List ℕ)) (bytes : List ℕ) (s : Status) (text : List ℕ) → TakesAll input left bytes → Checks bytes s text → Defines (Some Check) input s text
-defines_check None left bytes s text h a = record { bytes = bytes; told = tt; checks = a }
-defines_check (Some xs) left bytes s text h a = record { bytes = bytes; told = h.0; checks = a }
+pub defines_long : (command : Command) (input : Option (List ℕ)) → HasMoreThan input 16777216 → Defines (Some command) input status.TooLong too_long_line
+defines_long command None h =
+    let long : 16777216 < length (long_bytes 16777217) = subst (λ (n : ℕ). 16777216 < n) (sym (long_length 16777217)) (lit< tt) in
+    record { bytes = long_bytes 16777217; told = tt; answers = too_long_answer command (long_bytes 16777217) long }
+defines_long command (Some bytes) h = record { bytes = bytes; told = refl; answers = too_long_answer command bytes h }
+
+pub defines_answer : (command : Command) (input left : Option (List ℕ)) (bytes : List ℕ) (s : Status) (text : List ℕ) → TakesAll input left bytes → Answers command bytes s text → Defines (Some command) input s text
+defines_answer command None left bytes s text h a = record { bytes = bytes; told = tt; answers = a }
+defines_answer command (Some xs) left bytes s text h a = record { bytes = bytes; told = h.0; answers = a }
 
 -- ---- what the writer of a line leaves
 
@@ -53,10 +58,14 @@ leaves command input old new s r text d nr whole front = go r nr whole front
 
 -- ---- the answer is the one that is defined
 
-same_defined : (command : Option Command) (bytes : List ℕ) (s r : Status) (text line : List ℕ) → Defines command (Some bytes) s text → Defines command (Some bytes) r line → (s ≡ r) × (text ≡ line)
-same_defined None bytes s r text line d e = (d.0 ∙ sym e.0, d.1 ∙ sym e.1)
-same_defined (Some Check) bytes s r text line d e =
-    one_answer bytes s r text line (subst (λ (b : List ℕ). Checks b s text) (sym d.told) d.checks) (subst (λ (b : List ℕ). Checks b r line) (sym e.told) e.checks)
+same_answer : (command : Command) (bytes : List ℕ) (s r : Status) (text line : List ℕ) → Answers command bytes s text → Answers command bytes r line → (s ≡ r) × (DefinesText (Some command) r → text ≡ line)
+same_answer Check bytes s r text line d e = let same = one_answer bytes s r text line d e in (same.0, λ h. same.1)
+same_answer Run bytes s r text line d e = one_run_answer bytes s r text line d e
+
+same_defined : (command : Option Command) (bytes : List ℕ) (s r : Status) (text line : List ℕ) → Defines command (Some bytes) s text → Defines command (Some bytes) r line → (s ≡ r) × (DefinesText command r → text ≡ line)
+same_defined None bytes s r text line d e = (d.0 ∙ sym e.0, λ h. d.1 ∙ sym e.1)
+same_defined (Some command) bytes s r text line d e =
+    same_answer command bytes s r text line (subst (λ (b : List ℕ). Answers command b s text) (sym d.told) d.answers) (subst (λ (b : List ℕ). Answers command b r line) (sym e.told) e.answers)
 
 writes_of : (command : Option Command) (input old new : Option (List ℕ)) (r : Status) → IsAnswer r → Leaves command input old new r → Writes command input r old new
 writes_of command input old new status.Done a w = w
@@ -74,7 +83,7 @@ is_defined command input old new r l = record {
       let w = writes_of command input old new r a l in
       let told : Defines command (Some bytes) r w.text = subst (λ (i : Option (List ℕ)). Defines command i r w.text) is w.defined in
       let same = same_defined command bytes r s w.text text told (subst (λ (i : Option (List ℕ)). Defines command i s text) is d) in
-      (same.0, subst (λ (t : List ℕ). Appends old new t) same.1 w.appended);
+      (same.0, λ h. subst (λ (t : List ℕ). Appends old new t) (same.1 h) w.appended);
 }
 
 -- what a run of this command leaves
@@ -82,8 +91,12 @@ pub at_command : (command other : Option Command) (input old new : Option (List 
 at_command command other input old new r e l = subst (λ (c : Option Command). Leaves c input old new r) (sym e) l
 
 -- what is accepted is true
-pub leaves_truth : (input old new : Option (List ℕ)) (r : Status) → Leaves (Some Check) input old new r → r ≡ status.Done → IfTold input SaysTruth
-leaves_truth None old new r l e = tt
-leaves_truth (Some bytes) old new r l e =
-    let w : Writes (Some Check) (Some bytes) status.Done old new = subst (λ (q : Status). Leaves (Some Check) (Some bytes) old new q) e l in
-    done_truth bytes status.Done w.text refl (subst (λ (b : List ℕ). Checks b status.Done w.text) (sym w.defined.told) w.defined.checks)
+answer_truth : (command : Command) (bytes : List ℕ) (s : Status) (text : List ℕ) → s ≡ status.Done → Answers command bytes s text → SaysTrue (Some command) bytes
+answer_truth Check bytes s text e a = done_truth bytes s text e a
+answer_truth Run bytes s text e a = run_truth bytes s text e a
+
+pub leaves_truth : (command : Command) (input old new : Option (List ℕ)) (r : Status) → Leaves (Some command) input old new r → r ≡ status.Done → IfTold input (SaysTrue (Some command))
+leaves_truth command None old new r l e = tt
+leaves_truth command (Some bytes) old new r l e =
+    let w : Writes (Some command) (Some bytes) status.Done old new = subst (λ (q : Status). Leaves (Some command) (Some bytes) old new q) e l in
+    answer_truth command bytes status.Done w.text refl (subst (λ (b : List ℕ). Answers command b status.Done w.text) (sym w.defined.told) w.defined.answers)

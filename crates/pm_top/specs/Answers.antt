@@ -5,11 +5,17 @@ use Rattle.std.specs.Str.{bytes_eq}
 use Rattle.std.specs.String.{string_bytes}
 use Rattle.std.specs.declared.string.String.{String}
 use Rattle.std.specs.declared.alloc.Global.{Global}
+use Rattle.pm_logic.specs.declared.formula.Formula.{Formula}
+use Rattle.pm_top.specs.declared.row.Row.{Row}
+use Rattle.pm_top.specs.Sentence.{Sentence}
+use Rattle.pm_top.specs.Script.{IsSmallScript}
+use Rattle.pm_top.specs.Running.{accepted, refused, RunsTo}
+use Rattle.pm_top.specs.RunTexts.{refusal_line, Derives}
 use Rattle.pm_top.specs.Line.{Line}
 use Rattle.pm_top.specs.Ranges.{IsSmallText}
 use Rattle.pm_top.specs.Derivation.{IsDerivation, FailsFirst, statement_count}
 use Rattle.pm_top.specs.declared.command.Command.{Command}
-use Rattle.pm_top.specs.declared.command.Command.TheVariants.{Check}
+use Rattle.pm_top.specs.declared.command.Command.TheVariants.{Check, Run}
 use Rattle.pm_top.specs.declared.status.Status.{Status}
 use Rattle.pm_top.specs.declared.status.Status.TheVariants as status
 
@@ -17,7 +23,7 @@ use Rattle.pm_top.specs.declared.status.Status.TheVariants as status
 
 -- the command that the words name
 abbrev pub command_of : List (String Global) → Option Command
-command_of (w ∷ []) = if bytes_eq (string_bytes w) (codes "check") then Some Check else None
+command_of (w ∷ []) = if bytes_eq (string_bytes w) (codes "check") then Some Check else if bytes_eq (string_bytes w) (codes "run") then Some Run else None
 command_of _ = None
 
 -- ---- the lines that are written, each with its line feed
@@ -53,18 +59,29 @@ pub data Checks (bytes : List ℕ) : Status → List ℕ → Type 0 where
   unreadable : length bytes ≤ limit → ((ls : List Line) → ¬ IsSmallText bytes ls) → Checks bytes status.Unreadable unreadable_line
   too_long : limit < length bytes → Checks bytes status.TooLong too_long_line
 
+-- what `run` answers to an input, and what it writes for it: a derivation of exactly the script's lemma, or a line
+pub data Runs (bytes : List ℕ) : Status → List ℕ → Type 0 where
+  proves : (ss : List (ℕ × Sentence)) (lemma : Option (List ℕ × Formula)) (text : List ℕ) → length bytes ≤ limit → IsSmallScript bytes ss → RunsTo (length bytes) ss (accepted lemma) → Derives text lemma → Runs bytes status.Done text
+  refuses : (ss : List (ℕ × Sentence)) (sentence offset : ℕ) (row : Row) (name : Option (List ℕ)) → length bytes ≤ limit → IsSmallScript bytes ss → RunsTo (length bytes) ss (refused sentence offset row name) → Runs bytes status.Refused (refusal_line sentence offset row name)
+  unreadable : length bytes ≤ limit → ((ss : List (ℕ × Sentence)) → ¬ IsSmallScript bytes ss) → Runs bytes status.Unreadable unreadable_line
+  too_long : limit < length bytes → Runs bytes status.TooLong too_long_line
+
+abbrev pub Answers : Command → List ℕ → Status → List ℕ → Type 0
+Answers Check bytes s text = Checks bytes s text
+Answers Run bytes s text = Runs bytes s text
+
 -- a fact of the input, where it is told
 abbrev pub IfTold : Option (List ℕ) → (List ℕ → Type 0) → Type 0
 IfTold None P = ⊤
 IfTold (Some bytes) P = P bytes
 
--- what `check` answers to some input, which is the one that is told, where it is told
-pub record DefinesCheck (input : Option (List ℕ)) (s : Status) (text : List ℕ) : Type 0 where
+-- what a command answers to some input, which is the one that is told, where it is told
+pub record DefinesAnswer (command : Command) (input : Option (List ℕ)) (s : Status) (text : List ℕ) : Type 0 where
   pub bytes : List ℕ
   pub told : IfTold input (λ known. known ≡ bytes)
-  pub checks : Checks bytes s text
+  pub answers : Answers command bytes s text
 
--- the status and the line that the words and the input define
+-- the status and the text that the words and the input define
 abbrev pub Defines : Option Command → Option (List ℕ) → Status → List ℕ → Type 0
 Defines None input s text = (s ≡ status.Usage) × (text ≡ usage_line)
-Defines (Some Check) input s text = DefinesCheck input s text
+Defines (Some command) input s text = DefinesAnswer command input s text

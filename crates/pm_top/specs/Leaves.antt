@@ -3,6 +3,7 @@ use Rattle.std.specs.Prelude.{◌≡◌, ◌⊎◌, ℕ, List, [], Option, Some,
 use Rattle.std.specs.Io.KnownBytes.{Appends, Keeps}
 use Rattle.pm_top.specs.Taken.{AppendsFront}
 use Rattle.pm_top.specs.declared.command.Command.{Command}
+use Rattle.pm_top.specs.declared.command.Command.TheVariants.{Run}
 use Rattle.pm_top.specs.declared.status.Status.{Status}
 use Rattle.pm_top.specs.declared.status.Status.TheVariants as status
 use Rattle.pm_top.specs.Answers.{Defines}
@@ -18,13 +19,13 @@ IsAnswer status.ReadFault = ⊥
 IsAnswer status.WriteFault = ⊥
 IsAnswer status.Memory = ⊥
 
--- the whole line of this answer was written
+-- the whole text of this answer was written
 pub record Writes (command : Option Command) (input : Option (List ℕ)) (s : Status) (old new : Option (List ℕ)) : Type 0 where
   pub text : List ℕ
   pub defined : Defines command input s text
   pub appended : Appends old new text
 
--- a front of the line of some answer was written
+-- a front of the text of some answer was written
 pub record WritesFront (command : Option Command) (input : Option (List ℕ)) (old new : Option (List ℕ)) : Type 0 where
   pub s : Status
   pub text : List ℕ
@@ -38,9 +39,14 @@ Leaves command input old new status.WriteFault = WritesFront command input old n
 Leaves command input old new status.Memory = Keeps old new ⊎ WritesFront command input old new
 Leaves command input old new s = Writes command input s old new
 
--- where the input is told: an answer is the one that is defined, and its line was written whole
+-- whether the words and the input define the text too: a lemma has many derivations
+abbrev pub DefinesText : Option Command → Status → Type 0
+DefinesText (Some Run) status.Done = ⊥
+DefinesText _ _ = ⊤
+
+-- where the input is told: an answer is the one that is defined, and its text was written whole
 pub record IsDefined (command : Option Command) (input : Option (List ℕ)) (old new : Option (List ℕ)) (r : Status) : Type 0 where
-  pub only : (bytes : List ℕ) → input ≡ Some bytes → (s : Status) (text : List ℕ) → Defines command input s text → IsAnswer r → (r ≡ s) × Appends old new text
+  pub only : (bytes : List ℕ) → input ≡ Some bytes → (s : Status) (text : List ℕ) → Defines command input s text → IsAnswer r → (r ≡ s) × (DefinesText command s → Appends old new text)
 
 -- where the source tells, it is at its end
 abbrev pub IsReadToEnd : Option (List ℕ) → Option (List ℕ) → Type 0

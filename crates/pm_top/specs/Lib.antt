@@ -14,3 +14,14 @@ pub mod Leaves
 pub mod Causes
 pub mod Taken
 pub mod Devices
+pub mod Sentence
+pub mod Tokens
+pub mod Script
+pub mod ScriptReading
+pub mod Running
+pub mod Proving
+pub mod Connectives
+pub mod Statements
+pub mod Runs
+pub mod Written
+pub mod RunTexts

@@ -8,6 +8,8 @@ ghost use Rattle.pm_top.specs.Answers.{command_of};
 pub enum Command {
     /// Reads a derivation, and says whether each line follows.
     Check,
+    /// Reads a script, and writes a derivation of its lemma.
+    Run,
 }
 
 /// The command that the words after the program's name are, if they are one.
@@ -18,6 +20,8 @@ pub fn command_of(words: &[String]) -> Option<Command>
         [word] => {
             if word.as_str() == "check" {
                 Some(Command::Check)
+            } else if word.as_str() == "run" {
+                Some(Command::Run)
             } else {
                 None
             }

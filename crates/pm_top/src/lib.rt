@@ -11,11 +11,19 @@ mod laws;
 mod lines;
 mod memory;
 mod program;
+mod row;
+mod running;
+mod script;
+mod script_fault;
+mod script_formula;
+mod script_signs;
 mod sink;
 mod source;
 mod standard;
 mod status;
+mod tokens;
 mod words;
+mod writer;
 
 pub use laws::{derivations_are_true, rules_are_true};
 pub use memory::{MemSink, MemSource, SureSource};
@@ -27,5 +35,9 @@ pub use status::Status;
 
 #[cfg(test)]
 mod device_tests;
+#[cfg(test)]
+mod run_tests;
+#[cfg(test)]
+mod script_tests;
 #[cfg(test)]
 mod tests;

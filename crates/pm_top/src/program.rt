@@ -5,35 +5,40 @@ ghost use Rattle.std.specs.Io.KnownBytes.{Appends};
 ghost use Rattle.pm_top.specs.Causes.{Faulted};
 ghost use Rattle.pm_top.specs.Taken.{AppendsFront};
 ghost use Rattle.pm_top.specs.Answers.{command_of, IfTold};
-ghost use Rattle.pm_top.specs.Truth.{SaysTruth};
+ghost use Rattle.pm_top.specs.Truth.{SaysTrue};
 ghost use Rattle.pm_top.specs.Leaves.{IsAnswer, Leaves, IsDefined, IsReadToEnd};
 
-use crate::answer::check;
+use crate::answer::answer;
 use crate::command::{Command, command_of};
 use crate::sink::{SendFault, Sink, write_all};
 use crate::source::{Source, TakeFault, read_all};
 use crate::status::Status;
 use std::alloc::Global;
 
-/// Writes the line of an answer.
-fn say<K: Sink>(sink: &mut K, status: Status, line: &str) -> Status
+/// Writes the text of an answer.
+fn say<K: Sink>(sink: &mut K, status: Status, text: &[u8]) -> Status
     requires { IsAnswer status }
     ensures not_read { result ≡ Status.ReadFault → ⊥ }
     ensures write { Faulted (result ≡ Status.WriteFault) (K.faults sink.old) (K.faults sink.new) }
-    ensures whole { IsAnswer result → (result ≡ status) × Appends (K.written sink.old) (K.written sink.new) line.now }
-    ensures front { (IsAnswer result → ⊥) → AppendsFront (K.written sink.old) (K.written sink.new) line.now }
+    ensures whole { IsAnswer result → (result ≡ status) × Appends (K.written sink.old) (K.written sink.new) text.now }
+    ensures front { (IsAnswer result → ⊥) → AppendsFront (K.written sink.old) (K.written sink.new) text.now }
 {
-    match write_all(sink, line.as_bytes()) {
+    match write_all(sink, text) {
         Ok(()) => status,
         Err(SendFault::Write) => Status::WriteFault,
         Err(SendFault::Memory) => Status::Memory,
     }
 }
 
-/// Does what `check` asks for.
-#[tactic(auto, using(crate::proofs::Leaving::leaves, crate::proofs::Leaving::defines_long, crate::proofs::Leaving::defines_check))]
-fn run_check<S: Source, K: Sink>(alloc: Global, source: &mut S, sink: &mut K) -> Status
-    ensures output { Leaves (Some Command.Check) (S.left source.old) (K.written sink.old) (K.written sink.new) result }
+/// Does what a command asks for.
+#[tactic(auto, using(crate::proofs::Leaving::leaves, crate::proofs::Leaving::defines_long, crate::proofs::Leaving::defines_answer))]
+fn run_command<S: Source, K: Sink>(
+    alloc: Global,
+    command: Command,
+    source: &mut S,
+    sink: &mut K,
+) -> Status
+    ensures output { Leaves (Some command) (S.left source.old) (K.written sink.old) (K.written sink.new) result }
     ensures end { result ≡ Status.Done → IsReadToEnd (S.left source.old) (S.left source.new) }
     ensures read { Faulted (result ≡ Status.ReadFault) (S.faults source.old) (S.faults source.new) }
     ensures write { Faulted (result ≡ Status.WriteFault) (K.faults sink.old) (K.faults sink.new) }
@@ -41,20 +46,21 @@ fn run_check<S: Source, K: Sink>(alloc: Global, source: &mut S, sink: &mut K) ->
     let bytes = match read_all(alloc, source, 16_777_216) {
         Ok(bytes) => bytes,
         Err(TakeFault::Read) => return Status::ReadFault,
-        Err(TakeFault::Long) => return say(sink, Status::TooLong, "too long\n"),
+        Err(TakeFault::Long) => return say(sink, Status::TooLong, b"too long\n"),
         Err(TakeFault::Memory) => return Status::Memory,
     };
-    match check(alloc, bytes.as_slice()) {
-        Ok((status, line)) => say(sink, status, line.as_str()),
+    match answer(alloc, command, bytes.as_slice()) {
+        Ok((status, text)) => say(sink, status, text.as_slice()),
         Err(_) => Status::Memory,
     }
 }
 
 /// Does all that the program does. `words` are the words of the command line after the program's name; `source` is read
 /// and `sink` written. The answer is the status that the program ends with, and what was written then is the whole line
-/// of that status. `Done` says that the input was read to its end and that each line of it is true. Where the words name
-/// no command nothing is read. After `WriteFault` and `Memory` a front of the line that the words and the input define
-/// was written, or nothing, and after `ReadFault` nothing.
+/// of that status, or for `run` and `Done` a derivation of the script's lemma. `Done` says that the input was read to its
+/// end and, for `check`, that each line of it is true. Where the words name no command nothing is read. After
+/// `WriteFault` and `Memory` a front of a text that answers the words and the input was written, or nothing, and after
+/// `ReadFault` nothing.
 pub fn top<S: Source, K: Sink>(
     alloc: Global,
     words: &Vec<String>,
@@ -68,7 +74,7 @@ pub fn top<S: Source, K: Sink>(
     ensures defined { IsDefined (command_of words.now.items) (S.left source.old) (K.written sink.old) (K.written sink.new) result }
 
     // What is accepted is true, and was read to its end.
-    ensures truth { result ≡ Status.Done → IfTold (S.left source.old) SaysTruth }
+    ensures truth { result ≡ Status.Done → IfTold (S.left source.old) (SaysTrue (command_of words.now.items)) }
     ensures end { result ≡ Status.Done → IsReadToEnd (S.left source.old) (S.left source.new) }
 
     ensures unread { command_of words.now.items ≡ None → source.new ≡ source.old }
@@ -77,9 +83,9 @@ pub fn top<S: Source, K: Sink>(
 {
     match command_of(words.as_slice()) {
         None => {
-            let usage = "usage: mosel run | check | session | goals | selftest N\n";
+            let usage = b"usage: mosel run | check | session | goals | selftest N\n";
             say(sink, Status::Usage, usage)
         }
-        Some(Command::Check) => run_check(alloc, source, sink),
+        Some(command) => run_command(alloc, command, source, sink),
     }
 }

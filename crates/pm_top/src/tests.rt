@@ -6,7 +6,7 @@ use std::test::Fail;
 
 const HEADER: &str = "mosel-derivation 1\narities\n";
 
-fn words(alloc: Global, text: &str) -> Result<Vec<String>, Memory> {
+pub fn words(alloc: Global, text: &str) -> Result<Vec<String>, Memory> {
     let mut words = Vec::new(alloc);
     for word in text.split_whitespace() {
         words.push(String::from_str(alloc, word)?)?;
@@ -14,7 +14,24 @@ fn words(alloc: Global, text: &str) -> Result<Vec<String>, Memory> {
     Ok(words)
 }
 
-/// Runs `check` on the text over memory that never fails, and compares the status and what is written.
+/// Does what the word asks for over memory that never fails, and compares the status and what is written.
+pub fn answers(
+    rt: &impl Abort,
+    alloc: Global,
+    word: &str,
+    text: &[u8],
+    status: Status,
+    line: &str,
+) -> Result<(), Memory> {
+    let mut source = SureSource::new(alloc, text)?;
+    let mut sink = MemSink::new(alloc, 7, &[])?;
+    let words = words(alloc, word)?;
+    let got = top(alloc, &words, &mut source, &mut sink);
+    assert_eq!(rt; got, status);
+    assert_eq!(rt; sink.bytes(), line.as_bytes());
+    Ok(())
+}
+
 fn checks(
     rt: &impl Abort,
     alloc: Global,
@@ -22,13 +39,7 @@ fn checks(
     status: Status,
     line: &str,
 ) -> Result<(), Memory> {
-    let mut source = SureSource::new(alloc, text)?;
-    let mut sink = MemSink::new(alloc, 7, &[])?;
-    let words = words(alloc, "check")?;
-    let got = top(alloc, &words, &mut source, &mut sink);
-    assert_eq!(rt; got, status);
-    assert_eq!(rt; sink.bytes(), line.as_bytes());
-    Ok(())
+    answers(rt, alloc, "check", text, status, line)
 }
 
 #[test]

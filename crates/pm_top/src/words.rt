@@ -183,13 +183,13 @@ pub fn rule(bytes: &[u8]) -> Result<(Rule, &[u8]), Fault>
     }
 }
 
-fn is_letter(b: u8) -> bool
+pub fn is_letter(b: u8) -> bool
     ensures { result ≡ is_letter b }
 {
     (b'A' <= b && b <= b'Z') || (b'a' <= b && b <= b'z') || b == b'_'
 }
 
-fn is_name_byte(b: u8) -> bool
+pub fn is_name_byte(b: u8) -> bool
     ensures { result ≡ is_name_byte b }
 {
     is_letter(b) || (b'0' <= b && b <= b'9') || b == b'\''
@@ -211,7 +211,7 @@ fn is_reserved(word: &[u8]) -> bool
         || is_text(word, "False")
 }
 
-fn is_name(word: &[u8]) -> bool
+pub fn is_name(word: &[u8]) -> bool
     ensures { result ≡ is_name word.now }
 {
     match word {

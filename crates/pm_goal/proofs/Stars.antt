@@ -1,0 +1,30 @@
+-- Stars that are built from their last part on.
+use Rattle.std.proofs.Common.{◌≡◌, ℕ, zero, suc, ◌+◌, ◌-◌, ◌<◌, ◌≤◌, List, [], ◌∷◌, length, drop, map, get_or, refl, sym, ◌∙◌, ap, arith}
+use Rattle.pm_logic.specs.declared.formula.Formula.{Formula}
+use Rattle.pm_logic.specs.declared.formula.Formula.TheVariants.{Pure as Assert}
+use Rattle.pm_logic.specs.declared.formula.Formula.TheViews as view
+use Rattle.pm_goal.specs.declared.goal.Hyp.{Hyp}
+use Rattle.pm_goal.specs.declared.goal.Fact.{Fact}
+use Rattle.pm_goal.specs.Left.{star_onto, facts, hyps}
+
+-- the star of the list's items from i on
+pub record IsStar {A : Type 0} (part : A → Formula) (list : List A) (i : ℕ) (end left : Formula) : Type 0 where
+  pub within : i ≤ length list
+  pub is : left ≡ star_onto (map part (drop i list)) end
+
+pub star_none : {A : Type 0} (part : A → Formula) (list : List A) (end : Formula) → IsStar part list (length list) end end
+unfolding star_onto
+star_none part [] end = record { within = omega arith; is = refl }
+star_none part (x ∷ list) end = record { within = omega arith; is = (star_none part list end).is }
+
+star_more : {A : Type 0} (part : A → Formula) (list : List A) (i : ℕ) (x : A) (end left more : Formula) → i < length list → x ≡ get_or list i x → IsStar part list (suc i) end left → more ≡ view.Sep (part x) left → IsStar part list i end more
+unfolding star_onto
+star_more part [] i x end left more lt at s e = absurd (omega arith)
+star_more part (y ∷ list) zero x end left more lt at s e = record { within = omega arith; is = e ∙ ap (λ l. view.Sep (part x) l) s.is ∙ ap (λ a. view.Sep (part a) (star_onto (map part list) end)) at }
+star_more part (y ∷ list) (suc i) x end left more lt at s e = record { within = omega arith; is = (star_more part list i x end left more (omega arith) at (record { within = omega (arith, s.within); is = s.is }) e).is }
+
+pub star_less : {A : Type 0} (part : A → Formula) (list : List A) (i : ℕ) (x : A) (end left more : Formula) → 0 < i → IsStar part list i end left → x ≡ get_or list (i - 1) x → more ≡ view.Sep (part x) left → IsStar part list (i - 1) end more
+star_less part list zero x end left more some s at e = absurd (omega arith)
+star_less part list (suc i) x end left more some s at e =
+    let same : suc i - 1 ≡ i = omega arith in
+    rw same (star_more part list i x end left more (omega (arith, s.within)) (rw same at at) s e)
