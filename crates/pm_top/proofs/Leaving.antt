@@ -8,9 +8,13 @@ use Rattle.pm_top.specs.declared.command.Command.TheVariants.{Check, Run}
 use Rattle.pm_top.specs.declared.status.Status.{Status}
 use Rattle.pm_top.specs.declared.status.Status.TheVariants as status
 use Rattle.pm_top.specs.Answers.{too_long_line, Checks, Runs, Answers, IfTold, Defines}
+use Rattle.pm_logic.specs.declared.formula.Formula.{Formula}
+use Rattle.pm_top.specs.Sentence.{Sentence}
+use Rattle.pm_top.specs.Script.{IsSmallScript}
+use Rattle.pm_top.specs.Running.{accepted, RunsTo}
 use Rattle.pm_top.specs.Leaves.{IsAnswer, Writes, Leaves, DefinesText, IsDefined}
 use Rattle.pm_top.proofs.Answering.{one_answer, done_truth}
-use Rattle.pm_top.proofs.RunAnswers.{one_run_answer, run_truth}
+use Rattle.pm_top.proofs.RunAnswers.{one_run_answer, accepted_done, run_truth}
 
 -- ---- what is defined
 
@@ -77,6 +81,11 @@ writes_of command input old new status.ReadFault a w = absurd a
 writes_of command input old new status.WriteFault a w = absurd a
 writes_of command input old new status.Memory a w = absurd a
 
+accepted_answer : (command : Option Command) (bytes : List ℕ) (r : Status) (text : List ℕ) → Defines command (Some bytes) r text → command ≡ Some Run → (ss : List (ℕ × Sentence)) (l : Option (List ℕ × Formula)) → IsSmallScript bytes ss → RunsTo (length bytes) ss (accepted l) → r ≡ status.Done
+accepted_answer None bytes r text d e ss l is h = absurd cc
+accepted_answer (Some Check) bytes r text d e ss l is h = absurd cc
+accepted_answer (Some Run) bytes r text d e ss l is h = accepted_done bytes r text (subst (λ (b : List ℕ). Runs b r text) (sym d.told) d.answers) ss l is h
+
 pub is_defined : (command : Option Command) (input old new : Option (List ℕ)) (r : Status) → Leaves command input old new r → IsDefined command input old new r
 is_defined command input old new r l = record {
   only = λ bytes is s text d a.
@@ -84,6 +93,10 @@ is_defined command input old new r l = record {
       let told : Defines command (Some bytes) r w.text = subst (λ (i : Option (List ℕ)). Defines command i r w.text) is w.defined in
       let same = same_defined command bytes r s w.text text told (subst (λ (i : Option (List ℕ)). Defines command i s text) is d) in
       (same.0, λ h. subst (λ (t : List ℕ). Appends old new t) (same.1 h) w.appended);
+  accepts = λ bytes is e ss lemma small runs a.
+      let w = writes_of command input old new r a l in
+      let told : Defines command (Some bytes) r w.text = subst (λ (i : Option (List ℕ)). Defines command i r w.text) is w.defined in
+      accepted_answer command bytes r w.text told e ss lemma small runs;
 }
 
 -- what a run of this command leaves

@@ -32,3 +32,5 @@ pub mod Writing
 pub mod OneRun
 pub mod Proved
 pub mod RunAnswers
+pub mod TextLength
+pub mod ScriptLength

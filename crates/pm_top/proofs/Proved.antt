@@ -1,5 +1,5 @@
 -- From a run that proves its lemma to the derivation that is written.
-use Rattle.std.proofs.Common.{◌≡◌, ℕ, zero, suc, ◌+◌, ◌-◌, ◌<◌, ◌≤◌, ◌^◌, List, [], ◌∷◌, ◌++◌, length, refl, sym, ◌∙◌, ap, subst, arith, Option, Some, None}
+use Rattle.std.proofs.Common.{◌≡◌, ℕ, zero, suc, ◌+◌, ◌*◌, ◌-◌, ◌<◌, ◌≤◌, ◌^◌, List, [], ◌∷◌, ◌++◌, length, refl, sym, ◌∙◌, ap, subst, arith, lit≤, ◌⊎◌, inl, inr, Option, Some, None}
 use Rattle.std.specs.Prelude.{ℤ, pos, neg_ℤ, IsTrue, map, option_map, slice_get}
 use Rattle.pm_logic.specs.declared.formula.Formula.{Formula}
 use Rattle.pm_logic.specs.Scope.{TermScoped, PureScoped, Scoped, no_predicates}
@@ -21,7 +21,12 @@ use Rattle.pm_top.specs.Proving.{wands, proof_of}
 use Rattle.pm_top.specs.Written.{onto, newest_first}
 use Rattle.pm_top.specs.RunTexts.{Derives}
 use Rattle.pm_top.proofs.Proving.{proof_derives, proof_fits, proof_states}
+use Rattle.pm_top.specs.Runs.{intro_count}
 use Rattle.pm_top.proofs.ScriptLaws.{script_small}
+use Rattle.pm_top.proofs.ScriptLength.{script_length}
+use Rattle.pm_top.proofs.TextLength.{text_len, proof_length}
+use Rattle.pm_top.proofs.Writing.{length_newest}
+use Rattle.std.proofs.lemmas.Nat.{mul-le}
 use Rattle.pm_top.proofs.ScriptSteps.{some_same}
 
 -- ---- hypotheses, newest first
@@ -173,3 +178,41 @@ derives_proved bytes ss name goal place text small runs closed e =
       follows = proof_derives name hs d goal.concl there;
       states = proof_states name hs d goal.concl there ∙ ap (λ (f : Formula). (name, Some f) ∷ []) same;
     }
+
+-- ---- its length is within what `check` takes
+
+pub nothing_short : (text : List ℕ) → text ≡ text_of [] → length text ≤ 16777216
+nothing_short text e = let same : length text ≡ 27 = ap length e in omega (arith, same)
+
+low_or_high : (n k : ℕ) → (n ≤ k) ⊎ (k ≤ n)
+low_or_high n k = grind arith
+
+-- many hypotheses leave little for their formulas
+product_short : (n size : ℕ) → size + 1 + 36 * n ≤ 16384 → (3 * n + 1) * (2 * size + 120) ≤ 16700000
+product_short n size le = elim (low_or_high n 168) [
+  | inl few ↦ piece 505 32886 (omega (arith, few)) (omega (arith, le)) (lit≤ tt)
+  | inr more ↦ elim (low_or_high n 267) [
+    | inl few ↦ piece 802 20790 (omega (arith, few)) (omega (arith, le, more)) (lit≤ tt)
+    | inr more ↦ elim (low_or_high n 407) [
+      | inl few ↦ piece 1222 13662 (omega (arith, few)) (omega (arith, le, more)) (lit≤ tt)
+      | inr more ↦ piece 1366 3582 (omega (arith, le)) (omega (arith, le, more)) (lit≤ tt)
+    ]
+  ]
+]
+  where
+    piece : (a b : ℕ) → 3 * n + 1 ≤ a → 2 * size + 120 ≤ b → a * b ≤ 16700000 → (3 * n + 1) * (2 * size + 120) ≤ 16700000
+    piece a b le le' all = let most = mul-le (3 * n + 1) (2 * size + 120) a b le le' in omega (arith, most, all)
+
+pub proved_short : (bytes : List ℕ) (ss : List (ℕ × Sentence)) (name : List ℕ) (goal : Goal) (place : ℕ) (text : List ℕ) → IsSmallScript bytes ss → RunsTo (length bytes) ss (accepted (Some (name, whole goal))) → IsClosedBy goal place → length goal.spats ≤ intro_count ss → text ≡ text_of (proof_of name (newest_first goal.spats) (length goal.spats - 1 - place) goal.concl) → length text ≤ 16777216
+proved_short bytes ss name goal place text small runs closed few e =
+    let there = closed_by goal place closed in
+    let first = runs_lemma (length bytes) ss (accepted (Some (name, whole goal))) runs (name, whole goal) refl in
+    let sizes = script_length bytes ss small first.0 name (whole goal) first.1 in
+    let hs = newest_first goal.spats in
+    let d = length goal.spats - 1 - place in
+    let count : length hs ≡ length goal.spats = length_newest goal.spats in
+    let same : text_len (wands hs goal.concl) ≡ text_len (whole goal) = ap text_len (whole_wands goal) in
+    let most = proof_length name hs d goal.concl (text_len (whole goal)) there (omega (arith, same)) (omega (arith, count, few, sizes.0, small.short)) in
+    let product = product_short (length hs) (text_len (whole goal)) (omega (arith, count, few, sizes.0, small.short)) in
+    let whole_length : length text ≡ length (text_of (proof_of name hs d goal.concl)) = ap length e in
+    omega (arith, whole_length, most, product, sizes.1, small.short)

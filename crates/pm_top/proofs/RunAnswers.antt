@@ -27,7 +27,7 @@ use Rattle.pm_top.specs.Answers.{unreadable_line, Runs, Runs.proves, Runs.refuse
 use Rattle.pm_top.specs.Leaves.{DefinesText}
 use Rattle.pm_top.specs.Truth.{IsTrueLine, ProvesTruth}
 use Rattle.pm_top.proofs.OneRun.{runs_once}
-use Rattle.pm_top.proofs.Proved.{derives_nothing, derives_proved}
+use Rattle.pm_top.proofs.Proved.{derives_nothing, derives_proved, nothing_short, proved_short}
 use Rattle.pm_top.proofs.ScriptLaws.{one_script}
 use Rattle.pm_top.proofs.Sound.{derivation_true}
 
@@ -49,8 +49,8 @@ pub unreadable_script : (bytes line : List ℕ) → length bytes ≤ 16777216 �
 unreadable_script bytes line short none e = subst (λ (t : List ℕ). Runs bytes status.Unreadable t) (sym e) (unreadable short none)
 
 pub answered : (bytes : List ℕ) (ss : List (ℕ × Sentence)) (r : Run) (x : Status × List ℕ) → length bytes ≤ 16777216 → IsSmallScript bytes ss → ComesTo (length bytes) ss r → RunAnswer ss r x → Runs bytes x.0 x.1
-answered bytes ss made.Nothing x short small come e = subst (λ (s : Status). Runs bytes s x.1) (sym e.0) (proves ss None x.1 short small come.outcome (derives_nothing x.1 e.1))
-answered bytes ss (made.Proved goal place) x short small come e = subst (λ (s : Status). Runs bytes s x.1) (sym e.0) (proves ss _ x.1 short small come.outcome (derives_proved bytes ss _ goal place x.1 small come.outcome come.proof e.1))
+answered bytes ss made.Nothing x short small come e = subst (λ (s : Status). Runs bytes s x.1) (sym e.0) (proves ss None x.1 short small come.outcome (nothing_short x.1 e.1) (derives_nothing x.1 e.1))
+answered bytes ss (made.Proved goal place) x short small come e = subst (λ (s : Status). Runs bytes s x.1) (sym e.0) (proves ss _ x.1 short small come.outcome (proved_short bytes ss _ goal place x.1 small come.outcome come.proof come.few e.1) (derives_proved bytes ss _ goal place x.1 small come.outcome come.proof e.1))
 answered bytes ss (made.Refused n at row name) x short small come e =
     subst (λ (s : Status). Runs bytes s x.1) (sym e.0) (subst (λ (t : List ℕ). Runs bytes status.Refused t) (sym e.1) (refuses ss n at row name short small come.outcome))
 
@@ -58,6 +58,9 @@ answered bytes ss (made.Refused n at row name) x short small come e =
 
 one_outcome : (bytes : List ℕ) (ss us : List (ℕ × Sentence)) (o p : Outcome) → IsSmallScript bytes ss → IsSmallScript bytes us → RunsTo (length bytes) ss o → RunsTo (length bytes) us p → o ≡ p
 one_outcome bytes ss us o p is is' h k = runs_once (length bytes) ss o p h (subst (λ (x : List (ℕ × Sentence)). RunsTo (length bytes) x p) (one_script bytes us ss is' is) k)
+
+not_refused : (l : Option (List ℕ × Formula)) (n at : ℕ) (row : Row) (name : Option (List ℕ)) → accepted l ≡ refused n at row name → ⊥
+not_refused l n at row name e = absurd cc
 
 abbrev line_of : Outcome → List ℕ
 line_of (accepted l) = []
@@ -67,28 +70,29 @@ abbrev Same : Status → List ℕ → Status → List ℕ → Type 0
 Same s text r line = (s ≡ r) × (DefinesText (Some command.Run) r → text ≡ line)
 
 pub one_run_answer : (bytes : List ℕ) (s r : Status) (text line : List ℕ) → Runs bytes s text → Runs bytes r line → Same s text r line
-one_run_answer bytes _ _ text line (proves ss l _ short is h d) (proves us l' _ short' is' h' d') = (refl, λ no. absurd no)
-one_run_answer bytes _ _ text _ (proves ss l _ short is h d) (refuses us n at row name short' is' h') = absurd (no_refusal l n at row name (one_outcome bytes ss us (accepted l) (refused n at row name) is is' h h'))
-  where
-    no_refusal : (l : Option (List ℕ × Formula)) (n at : ℕ) (row : Row) (name : Option (List ℕ)) → accepted l ≡ refused n at row name → ⊥
-    no_refusal l n at row name e = absurd cc
-one_run_answer bytes _ _ text _ (proves ss l _ short is h d) (unreadable short' none) = absurd (none ss is)
-one_run_answer bytes _ _ text _ (proves ss l _ short is h d) (too_long long) = absurd (omega arith)
-one_run_answer bytes _ _ _ line (refuses ss n at row name short is h) (proves us l _ short' is' h' d) = absurd (no_acceptance l n at row name (one_outcome bytes ss us (refused n at row name) (accepted l) is is' h h'))
-  where
-    no_acceptance : (l : Option (List ℕ × Formula)) (n at : ℕ) (row : Row) (name : Option (List ℕ)) → refused n at row name ≡ accepted l → ⊥
-    no_acceptance l n at row name e = absurd cc
+one_run_answer bytes _ _ text line (proves ss l _ short is h fits d) (proves us l' _ short' is' h' fits' d') = (refl, λ no. absurd no)
+one_run_answer bytes _ _ text _ (proves ss l _ short is h fits d) (refuses us n at row name short' is' h') = absurd (not_refused l n at row name (one_outcome bytes ss us (accepted l) (refused n at row name) is is' h h'))
+one_run_answer bytes _ _ text _ (proves ss l _ short is h fits d) (unreadable short' none) = absurd (none ss is)
+one_run_answer bytes _ _ text _ (proves ss l _ short is h fits d) (too_long long) = absurd (omega arith)
+one_run_answer bytes _ _ _ line (refuses ss n at row name short is h) (proves us l _ short' is' h' fits d) = absurd (not_refused l n at row name (sym (one_outcome bytes ss us (refused n at row name) (accepted l) is is' h h')))
 one_run_answer bytes _ _ _ _ (refuses ss n at row name short is h) (refuses us m there why who short' is' h') = (refl, λ t. ap line_of (one_outcome bytes ss us (refused n at row name) (refused m there why who) is is' h h'))
 one_run_answer bytes _ _ _ _ (refuses ss n at row name short is h) (unreadable short' none) = absurd (none ss is)
 one_run_answer bytes _ _ _ _ (refuses ss n at row name short is h) (too_long long) = absurd (omega arith)
-one_run_answer bytes _ _ _ line (unreadable short none) (proves ss l _ short' is h d) = absurd (none ss is)
+one_run_answer bytes _ _ _ line (unreadable short none) (proves ss l _ short' is h fits d) = absurd (none ss is)
 one_run_answer bytes _ _ _ _ (unreadable short none) (refuses ss n at row name short' is h) = absurd (none ss is)
 one_run_answer bytes _ _ _ _ (unreadable short none) (unreadable short' none') = (refl, λ t. refl)
 one_run_answer bytes _ _ _ _ (unreadable short none) (too_long long) = absurd (omega arith)
-one_run_answer bytes _ _ _ line (too_long long) (proves ss l _ short is h d) = absurd (omega arith)
+one_run_answer bytes _ _ _ line (too_long long) (proves ss l _ short is h fits d) = absurd (omega arith)
 one_run_answer bytes _ _ _ _ (too_long long) (refuses ss n at row name short is h) = absurd (omega arith)
 one_run_answer bytes _ _ _ _ (too_long long) (unreadable short none) = absurd (omega arith)
 one_run_answer bytes _ _ _ _ (too_long long) (too_long long') = (refl, λ t. refl)
+
+-- where no sentence is refused the answer is success
+pub accepted_done : (bytes : List ℕ) (r : Status) (text : List ℕ) → Runs bytes r text → (ss : List (ℕ × Sentence)) (l : Option (List ℕ × Formula)) → IsSmallScript bytes ss → RunsTo (length bytes) ss (accepted l) → r ≡ status.Done
+accepted_done bytes _ text (proves us k _ short is h fits d) ss l is' h' = refl
+accepted_done bytes _ _ (refuses us n at row name short is h) ss l is' h' = absurd (not_refused l n at row name (sym (one_outcome bytes us ss (refused n at row name) (accepted l) is is' h h')))
+accepted_done bytes _ _ (unreadable short none) ss l is' h' = absurd (none ss is')
+accepted_done bytes _ _ (too_long long) ss l is' h' = let short = is'.short in absurd (omega (arith, short, long))
 
 -- ---- the lemma is true
 
@@ -153,7 +157,7 @@ lemma_of (accepted l) = l
 lemma_of (refused n at row name) = None
 
 proves_truth : (bytes text : List ℕ) → Runs bytes status.Done text → ProvesTruth bytes
-proves_truth bytes text (proves ss l _ short is h d) = record {
+proves_truth bytes text (proves ss l _ short is h fits d) = record {
   lemma = λ us name f is' h'.
       let same : l ≡ Some (name, f) = ap lemma_of (one_outcome bytes ss us (accepted l) (accepted (Some (name, f))) is is' h h') in
       stated_true d.lines name f d.follows (d.states ∙ ap stated same);

@@ -1,5 +1,5 @@
 -- What comes of the sentences of a proof.
-use Rattle.std.proofs.Common.{◌≡◌, ◌≢◌, ℕ, ◌+◌, ◌-◌, ◌<◌, ◌≤◌, Bool, true, false, cond, List, [], ◌∷◌, length, take, drop, get_or, arith, refl, sym, ◌∙◌, ap, subst, Option, Some, None, Result, Ok, Err, Bor}
+use Rattle.std.proofs.Common.{◌≡◌, ◌≢◌, ℕ, suc, length-append, ◌+◌, ◌-◌, ◌<◌, ◌≤◌, Bool, true, false, cond, List, [], ◌∷◌, length, take, drop, get_or, arith, refl, sym, ◌∙◌, ap, subst, Option, Some, None, Result, Ok, Err, Bor}
 use Rattle.std.specs.List.{fold}
 use Rattle.std.specs.Result.{IfOk}
 use Rattle.pm_logic.specs.declared.formula.Formula.{Formula}
@@ -17,8 +17,9 @@ use Rattle.std.proofs.Math.Seq.{take-length as take_length}
 use Rattle.pm_top.specs.ScriptReading.{sentence_of, placed_sentence, sentences_of}
 use Rattle.pm_top.specs.Script.{is_lemma, lemma_count}
 use Rattle.pm_top.specs.Sentence.{Sentence, Lemma, Intros, Exact, Qed}
-use Rattle.pm_top.specs.Running.{whole, name_if, IsRefusal, Introduces, Closes, IsClosedBy, Outcome, is_directive, InProof, ends_inside, moves, is_refused, goals_remain, no_goal, proved, no_proof, nothing, opens, no_proof_yet as no_script_proof, opening}
-use Rattle.pm_top.specs.Runs.{ComesTo, HasNoLemma, stopped, StopsClosed, outcome_of, IsProof, RunsFrom, closed_run}
+use Rattle.pm_top.specs.Running.{whole, name_if, IsRefusal, Introduces, Closes, IsClosedBy, Outcome, is_directive, InProof, ends_inside, moves, is_refused, goals_remain, no_goal, proved, no_proof, nothing, opens, no_proof_yet as no_script_proof, opening, Steps, intro}
+use Rattle.pm_goal.specs.declared.goal.Hyp.{Hyp}
+use Rattle.pm_top.specs.Runs.{ComesTo, HasNoLemma, stopped, StopsClosed, outcome_of, IsProof, RunsFrom, closed_run, intro_count, HasFew}
 
 abbrev stop : ℕ → ℕ → Row → Option Stop
 stop n at row = Some (record { sentence = n; offset = at; row = row })
@@ -91,22 +92,30 @@ abbrev ended : ℕ → ℕ → Row → Run
 ended n at row = run.Refused n at row None
 
 pub open_at_end : (size next : ℕ) (goal : Goal) (xs : Read) → length xs < 1 → RunsFrom size next goal (sentences_of xs) (ended next size Q3)
-open_at_end size next goal [] lt = record { outcome = λ name. ends_inside next (goal ∷ []); proof = tt }
+open_at_end size next goal [] lt = record { outcome = λ name. ends_inside next (goal ∷ []); proof = tt; few = tt }
 open_at_end size next goal (x ∷ xs) lt = absurd (omega arith)
 
 pub open_at_qed : (size next : ℕ) (goal : Goal) (xs : Read) (x : PlacedSentence) → 1 ≤ length xs → x ≡ get_or xs 0 x → sentence_of x.sentence ≡ Qed → RunsFrom size next goal (sentences_of xs) (ended next x.at Q3)
 open_at_qed size next goal [] x le is q = absurd (omega arith)
 open_at_qed size next goal (y ∷ ys) x le is q =
-    let row : RunsFrom size next goal ((x.at, Qed) ∷ sentences_of ys) (ended next x.at Q3) = record { outcome = λ name. goals_remain next x.at goal [] (sentences_of ys); proof = tt } in
+    let row : RunsFrom size next goal ((x.at, Qed) ∷ sentences_of ys) (ended next x.at Q3) = record { outcome = λ name. goals_remain next x.at goal [] (sentences_of ys); proof = tt; few = tt } in
     subst (λ (p : PlacedSentence). RunsFrom size next goal ((p.at, sentence_of p.sentence) ∷ sentences_of ys) (ended next x.at Q3)) (is_first x y ys is) (subst (λ (t : Sentence). RunsFrom size next goal ((x.at, t) ∷ sentences_of ys) (ended next x.at Q3)) (sym q) row)
 
 pub open_refused : (size next : ℕ) (goal : Goal) (xs : Read) (x : PlacedSentence) (s : Sentence) (name : List ℕ) (refusal : Refusal) (r : Run) → 1 ≤ length xs → x ≡ get_or xs 0 x → sentence_of x.sentence ≡ s → IsRefusal goal s name refusal → r ≡ run.Refused next x.at refusal.row (name_if refusal.named name) → RunsFrom size next goal (sentences_of xs) r
 open_refused size next goal [] x s name refusal r le is q ref e = absurd (omega arith)
 open_refused size next goal (y ∷ ys) x s name refusal r le is q ref e =
     let answer = run.Refused next x.at refusal.row (name_if refusal.named name) in
-    let row : RunsFrom size next goal ((x.at, s) ∷ sentences_of ys) answer = record { outcome = λ lemma. is_refused next x.at goal [] s (sentences_of ys) refusal.row (name_if refusal.named name) ref; proof = tt } in
+    let row : RunsFrom size next goal ((x.at, s) ∷ sentences_of ys) answer = record { outcome = λ lemma. is_refused next x.at goal [] s (sentences_of ys) refusal.row (name_if refusal.named name) ref; proof = tt; few = tt } in
     let at_y : RunsFrom size next goal (sentences_of (y ∷ ys)) answer = subst (λ (p : PlacedSentence). RunsFrom size next goal ((p.at, sentence_of p.sentence) ∷ sentences_of ys) answer) (is_first x y ys is) (subst (λ (t : Sentence). RunsFrom size next goal ((x.at, t) ∷ sentences_of ys) answer) (sym q) row) in
     subst (λ (a : Run). RunsFrom size next goal (sentences_of (y ∷ ys)) a) (sym e) at_y
+
+few_more : (m n : ℕ) (r : Run) → m ≤ n → HasFew m r → HasFew n r
+few_more m n run.Nothing le h = tt
+few_more m n (run.Proved goal place) le h = omega (arith, le, h)
+few_more m n (run.Refused sentence offset row name) le h = tt
+
+intro_length : (goal : Goal) (name : List ℕ) (new : Goal) → Steps goal (Intros name) (new ∷ []) → length new.spats ≡ length goal.spats + 1
+intro_length goal name new (intro called a b is free) = let h : Hyp = record { name = called; formula = a } in length-append goal.spats (h ∷ [])
 
 pub open_moves : (size next : ℕ) (goal new : Goal) (xs : Read) (x : PlacedSentence) (name : List ℕ) (r : Run) → 1 ≤ length xs → x ≡ get_or xs 0 x → sentence_of x.sentence ≡ Intros name → Introduces goal name new → RunsFrom size (next + 1) new (sentences_of (behind xs)) r → RunsFrom size next goal (sentences_of xs) r
 open_moves size next goal new [] x name r le is q i h = absurd (omega arith)
@@ -115,6 +124,7 @@ open_moves size next goal new (y ∷ ys) x name r le is q i h =
     let row : RunsFrom size next goal ((x.at, Intros name) ∷ sentences_of ys) r = record {
       outcome = λ lemma. moves next x.at goal (new ∷ []) [] (Intros name) (sentences_of ys) (outcome_of lemma r) i.steps (subst (λ (f : Formula). InProof size (lemma, f) (next + 1) (new ∷ []) (sentences_of ys) (outcome_of lemma r)) i.same_whole (rest.outcome lemma));
       proof = rest.proof;
+      few = few_more (length new.spats + intro_count (sentences_of ys)) (length goal.spats + suc (intro_count (sentences_of ys))) r (let one = intro_length goal name new i.steps in omega (arith, one)) rest.few;
     } in
     subst (λ (p : PlacedSentence). RunsFrom size next goal ((p.at, sentence_of p.sentence) ∷ sentences_of ys) r) (is_first x y ys is) (subst (λ (t : Sentence). RunsFrom size next goal ((x.at, t) ∷ sentences_of ys) r) (sym q) row)
 
@@ -126,6 +136,10 @@ is_proof : (goal : Goal) (place : ℕ) (s : Option Stop) → IsClosedBy goal pla
 is_proof goal place None h = h
 is_proof goal place (Some s) h = tt
 
+is_few : (goal : Goal) (place : ℕ) (s : Option Stop) (n : ℕ) → HasFew (length goal.spats + n) (closed_run goal place s)
+is_few goal place None n = omega arith
+is_few goal place (Some s) n = tt
+
 pub open_closes : (size next : ℕ) (goal : Goal) (xs : Read) (x : PlacedSentence) (name : List ℕ) (place : ℕ) (s : Option Stop) (r : Run) → 1 ≤ length xs → x ≡ get_or xs 0 x → sentence_of x.sentence ≡ Exact name → Closes goal name place → StopsClosed size (next + 1) (sentences_of (behind xs)) s → r ≡ closed_run goal place s → RunsFrom size next goal (sentences_of xs) r
 open_closes size next goal [] x name place s r le is q c h e = absurd (omega arith)
 open_closes size next goal (y ∷ ys) x name place s r le is q c h e =
@@ -134,6 +148,7 @@ open_closes size next goal (y ∷ ys) x name place s r le is q c h e =
     let row : RunsFrom size next goal ((x.at, Exact name) ∷ sentences_of ys) answer = record {
       outcome = λ lemma. moves next x.at goal [] [] (Exact name) (sentences_of ys) (outcome_of lemma answer) c.steps (subst (λ (o : Outcome). InProof size (lemma, whole goal) (next + 1) [] (sentences_of ys) o) (same_outcome goal place s lemma) (rest.outcome (lemma, whole goal)));
       proof = is_proof goal place s c.by;
+      few = is_few goal place s (intro_count (sentences_of ys));
     } in
     let at_y : RunsFrom size next goal (sentences_of (y ∷ ys)) answer = subst (λ (p : PlacedSentence). RunsFrom size next goal ((p.at, sentence_of p.sentence) ∷ sentences_of ys) answer) (is_first x y ys is) (subst (λ (t : Sentence). RunsFrom size next goal ((x.at, t) ∷ sentences_of ys) answer) (sym q) row) in
     subst (λ (a : Run). RunsFrom size next goal (sentences_of (y ∷ ys)) a) (sym e) at_y
@@ -182,21 +197,21 @@ no_lemma_after (y ∷ ys) x le some is e =
     subst (λ (l : Read). HasNoLemma (sentences_of l)) (sym (behind_first y ys)) (lemma_alone (placed_sentence y) (sentences_of ys) le first)
 
 pub comes_to_nothing : (size : ℕ) (xs : Read) → length xs < 1 → ComesTo size (sentences_of xs) run.Nothing
-comes_to_nothing size [] lt = record { outcome = nothing; proof = tt }
+comes_to_nothing size [] lt = record { outcome = nothing; proof = tt; few = tt }
 comes_to_nothing size (x ∷ xs) lt = absurd (omega arith)
 
 pub comes_to_refusal : (size : ℕ) (xs : Read) (x : PlacedSentence) → 1 ≤ length xs → x ≡ get_or xs 0 x → is_lemma (sentence_of x.sentence) ≡ false → ComesTo size (sentences_of xs) (ended 1 x.at Q1)
 comes_to_refusal size [] x le is e = absurd (omega arith)
 comes_to_refusal size (y ∷ ys) x le is e =
     subst (λ (n : ℕ). ComesTo size (sentences_of (y ∷ ys)) (ended 1 n Q1)) (ap (λ (p : PlacedSentence). p.at) (sym (is_first x y ys is)))
-    (record { outcome = no_script_proof y.at (sentence_of y.sentence) (sentences_of ys) (ap (λ (p : PlacedSentence). is_lemma (sentence_of p.sentence)) (sym (is_first x y ys is)) ∙ e); proof = tt })
+    (record { outcome = no_script_proof y.at (sentence_of y.sentence) (sentences_of ys) (ap (λ (p : PlacedSentence). is_lemma (sentence_of p.sentence)) (sym (is_first x y ys is)) ∙ e); proof = tt; few = tt })
 
 pub comes_to_proof : (size : ℕ) (xs : Read) (x : PlacedSentence) (name : List ℕ) (f : Formula) (goal : Goal) (r : Run) → 1 ≤ length xs → x ≡ get_or xs 0 x → sentence_of x.sentence ≡ Lemma name f → goal ≡ opening f → RunsFrom size 2 goal (sentences_of (behind xs)) r → ComesTo size (sentences_of xs) r
 comes_to_proof size [] x name f goal r le is q g h = absurd (omega arith)
 comes_to_proof size (y ∷ ys) x name f goal r le is q g h =
     let first : sentence_of y.sentence ≡ Lemma name f = ap (λ (p : PlacedSentence). sentence_of p.sentence) (sym (is_first x y ys is)) ∙ q in
     let rest : RunsFrom size 2 (opening f) (sentences_of ys) r = subst (λ (l : Read). RunsFrom size 2 (opening f) (sentences_of l) r) (behind_first y ys) (subst (λ (k : Goal). RunsFrom size 2 k (sentences_of (behind (y ∷ ys))) r) g h) in
-    subst (λ (s : Sentence). ComesTo size ((y.at, s) ∷ sentences_of ys) r) (sym first) (record { outcome = opens y.at name f (sentences_of ys) (outcome_of name r) (rest.outcome name); proof = rest.proof })
+    subst (λ (s : Sentence). ComesTo size ((y.at, s) ∷ sentences_of ys) r) (sym first) (record { outcome = opens y.at name f (sentences_of ys) (outcome_of name r) (rest.outcome name); proof = rest.proof; few = few_more (0 + intro_count (sentences_of ys)) (intro_count (sentences_of ys)) r (omega arith) rest.few })
 
 pub not_lemma : (s : ReadSentence) → ((name : Bor (List ℕ)) (f : Formula) → s ≢ read.Lemma name f) → is_lemma (sentence_of s) ≡ false
 not_lemma (read.Lemma name f) h = absurd (h name f refl)

@@ -1,8 +1,10 @@
 -- Tokens, one after the other, and how many bytes they have.
-use Rattle.std.proofs.Common.{◌≡◌, ℕ, suc, ◌+◌, ◌-◌, ◌<◌, ◌≤◌, Bool, true, false, cond, ◌&&◌, ◌==◌, List, [], ◌∷◌, ◌++◌, length, drop, refl, sym, ap, subst, ◌∙◌, arith, Option, Some, None, length-drop, length-append}
-use Rattle.std.specs.Prelude.{codes}
+use Rattle.std.proofs.Common.{◌≡◌, ℕ, zero, suc, ◌+◌, ◌*◌, ◌-◌, ◌^◌, ◌<◌, ◌≤◌, Bool, true, false, cond, ◌&&◌, ◌==◌, List, [], ◌∷◌, ◌++◌, length, take, drop, refl, sym, ap, subst, ◌∙◌, arith, Option, Some, None, length-drop, length-append}
+use Rattle.std.specs.Prelude.{codes, nat_lt}
+use Rattle.std.specs.Fmt.{decimal}
 use Rattle.std.specs.List.{prefix_len}
-use Rattle.std.proofs.lemmas.Bool.Decides.{Decides-eqb}
+use Rattle.std.proofs.lemmas.Bool.Decides.{Decides-eqb, Decides-ltb, nat_tests}
+use Rattle.std.proofs.lemmas.Fmt.{decimal_nonempty, length-decimal-le}
 use Rattle.std.proofs.lemmas.List.Sums.{prefix_len-le-length}
 use Rattle.std.proofs.lemmas.List.Folds.{length-prefix_len}
 use Rattle.std.proofs.lemmas.List.{map-append}
@@ -10,7 +12,7 @@ use Rattle.std.proofs.lemmas.Slice.Eq.{starts_is}
 use Rattle.pm_top.specs.declared.script_signs.Sign.{Sign}
 use Rattle.pm_top.specs.declared.script_signs.Sign.TheVariants.{Open, Close, Colon, Star, Wand, PointsTo, Entails, Minus, Stop}
 use Rattle.pm_top.specs.Ranges.{is_letter, is_name_byte}
-use Rattle.pm_top.specs.Tokens.{Token, word, number, quoted, sign, Place, place, front, past, is_blank, is_digit, is_label, begins, star_mark, arrow_mark, turnstile_mark, ends, sign_at, sign_token, stop_at, closed_at, quoted_at, first_token, AreTokens, token_of, place_of, places}
+use Rattle.pm_top.specs.Tokens.{Token, word, number, quoted, sign, Place, place, front, past, is_blank, is_digit, is_label, begins, star_mark, arrow_mark, turnstile_mark, ends, sign_at, sign_token, stop_at, closed_at, quoted_at, number_behind, number_of, first_token, AreTokens, token_of, place_of, places}
 use Rattle.pm_top.specs.declared.tokens.Placed.{Placed}
 use Rattle.pm_top.specs.Tokens as cut
 use Rattle.pm_top.proofs.ScriptLoops.{First, Found, found_all, found_more}
@@ -58,13 +60,49 @@ same_tokens whole bytes ps qs (cut.next {rest = r} {t = u} {ps = more} e g) h =
 abbrev pub sign_bytes : Sign → ℕ
 sign_bytes PointsTo = 3
 sign_bytes Wand = 2
+sign_bytes Entails = 2
 sign_bytes s = 1
+
+-- of digits that write n: as many as n has, where it is small
+unfoldable pub number_bytes : ℕ → ℕ
+number_bytes n = cond (nat_lt n (2 ^ 64)) (length (decimal n)) 1
 
 abbrev pub token_bytes : Token → ℕ
 token_bytes (word w) = length w
-token_bytes (number ds) = 1
-token_bytes (quoted n) = 1
+token_bytes (number ds) = number_bytes (number_of ds)
+token_bytes (quoted n) = 3
 token_bytes (sign s) = sign_bytes s
+
+pub number_small : (n : ℕ) → n < 2 ^ 64 → number_bytes n ≡ length (decimal n)
+unfolding number_bytes
+number_small n h = ap (λ b. cond b (length (decimal n)) 1) ((Decides-ltb n (2 ^ 64)).1 h)
+
+by_size : (P : ℕ → Type 0) (n : ℕ) → (n < 2 ^ 64 → P (length (decimal n))) → P 1 → P (number_bytes n)
+unfolding number_bytes
+by_size P n small large = go (nat_lt n (2 ^ 64)) refl
+  where
+    go : (b : Bool) → nat_lt n (2 ^ 64) ≡ b → P (cond b (length (decimal n)) 1)
+    go true is = small ((Decides-ltb n (2 ^ 64)).0 is)
+    go false is = large
+
+pub number_some : (n : ℕ) → 1 ≤ number_bytes n
+number_some n = by_size (λ k. 1 ≤ k) n (λ h. omega (arith, decimal_nonempty n h)) (omega arith)
+
+number_most : (k n : ℕ) → 0 < k → n < 10 ^ k → number_bytes n ≤ k
+number_most k n some fits = by_size (λ m. m ≤ k) n (λ h. length-decimal-le k n some fits h) (omega arith)
+
+-- so many digits at the front, behind those of a number below 10 ^ k
+digits_below : (ds : List ℕ) (n k m : ℕ) → n < 10 ^ k → m ≡ prefix_len is_digit ds → number_behind n (take m ds) < 10 ^ (k + m)
+digits_below ds n k zero below is = subst (λ j. n < 10 ^ j) (omega arith) below
+digits_below [] n k (suc m) below is = absurd (omega (arith, is))
+digits_below (d ∷ ds) n k (suc m) below is = go (is_digit d) refl is (λ next is. digits_below ds (n * 10 + (d - 48)) (suc k) m next is)
+  where
+    go : (b : Bool) → is_digit d ≡ b → suc m ≡ cond b (1 + prefix_len is_digit ds) 0
+        → (n * 10 + (d - 48) < 10 ^ suc k → m ≡ prefix_len is_digit ds → number_behind (n * 10 + (d - 48)) (take m ds) < 10 ^ (suc k + m)) → number_behind (n * 10 + (d - 48)) (take m ds) < 10 ^ (k + suc m)
+    go true digit e more =
+        let next : n * 10 + (d - 48) < 10 ^ suc k = grind (arith, below, digit, nat_tests) in
+        subst (λ j. number_behind (n * 10 + (d - 48)) (take m ds) < 10 ^ j) (omega arith) (more next (omega (arith, e)))
+    go false digit e more = absurd (omega (arith, e))
 
 abbrev SignFits : List ℕ → Sign × ℕ → Type 0
 SignFits bytes x = (sign_bytes x.0 ≤ x.1) × (x.1 ≤ length bytes)
@@ -108,6 +146,7 @@ sign_fits bytes x e =
 sign_some : (s : Sign) → 1 ≤ sign_bytes s
 sign_some PointsTo = omega arith
 sign_some Wand = omega arith
+sign_some Entails = omega arith
 sign_some _ = omega arith
 
 abbrev pub TokenFits : List ℕ → Token × List ℕ → Type 0
@@ -130,12 +169,17 @@ stop_fits bytes x e =
     let s = some_is (ends bytes) (sign Stop, bytes) x e in
     subst (λ (y : Token × List ℕ). TokenFits (46 ∷ bytes) y) s.1 (omega arith, omega arith)
 
-closed_fits : (w bytes : List ℕ) (x : Token × List ℕ) → closed_at w bytes ≡ Some x → TokenFits bytes x
+closed_fits : (w bytes : List ℕ) (x : Token × List ℕ) → closed_at w bytes ≡ Some x → (token_bytes x.0 ≡ 3) × (length x.1 < length bytes) × (0 < length w)
 unfolding closed_at
 closed_fits w [] x e = absurd cc
-closed_fits w (b ∷ bytes) x e =
-    let s = some_is (b == 34 && is_label w) (quoted w, bytes) x e in
-    subst (λ (y : Token × List ℕ). TokenFits (b ∷ bytes) y) s.1 (omega arith, omega arith)
+closed_fits [] (b ∷ bytes) x e = let s = some_is (b == 34 && false) (quoted [], bytes) x e in absurd (no_label (b == 34) s.0)
+  where
+    no_label : (b : Bool) → (b && false) ≡ true → ⊥
+    no_label true e = absurd cc
+    no_label false e = absurd cc
+closed_fits (c ∷ w) (b ∷ bytes) x e =
+    let s = some_is (b == 34 && is_label (c ∷ w)) (quoted (c ∷ w), bytes) x e in
+    subst (λ (y : Token × List ℕ). (token_bytes y.0 ≡ 3) × (length y.1 < suc (length bytes)) × (0 < suc (length w))) s.1 (refl, omega arith, omega arith)
 
 quoted_fits : (bytes : List ℕ) (x : Token × List ℕ) → quoted_at bytes ≡ Some x → TokenFits (34 ∷ bytes) x
 unfolding quoted_at
@@ -143,9 +187,20 @@ quoted_fits bytes x e =
     let inner = past is_blank bytes in
     let fits = closed_fits (front is_name_byte inner) (past is_blank (past is_name_byte inner)) x e in
     let a = past_fits is_blank bytes in
-    let b = past_fits is_name_byte inner in
-    let c = past_fits is_blank (past is_name_byte inner) in
-    (omega (arith, a, b, c, fits.0), fits.1)
+    let b = past_fits is_blank (past is_name_byte inner) in
+    let n = length-prefix_len is_name_byte inner in
+    let most = prefix_len-le-length is_name_byte inner in
+    let rest = length-drop (prefix_len is_name_byte inner) inner in
+    (omega (arith, a, b, n, most, rest, fits.0, fits.1, fits.2), omega (arith, fits.0))
+
+digits_fit : (b : ℕ) (bytes : List ℕ) → is_digit b ≡ true → TokenFits (b ∷ bytes) (number (front is_digit (b ∷ bytes)), past is_digit (b ∷ bytes))
+digits_fit b bytes h =
+    let fits = front_fits is_digit b bytes h in
+    let n = prefix_len is_digit (b ∷ bytes) in
+    let len : length (front is_digit (b ∷ bytes)) ≡ n = length-prefix_len is_digit (b ∷ bytes) in
+    let below : number_of (front is_digit (b ∷ bytes)) < 10 ^ n = subst (λ j. number_of (front is_digit (b ∷ bytes)) < 10 ^ j) (omega arith) (digits_below (b ∷ bytes) 0 0 n (omega arith) refl) in
+    let most = number_most n (number_of (front is_digit (b ∷ bytes))) (omega (arith, fits.1, len)) below in
+    (omega (arith, fits.0, len, most), number_some _)
 
 sign_token_fits : (bytes : List ℕ) (o : Option (Sign × ℕ)) (x : Token × List ℕ) → sign_at bytes ≡ o → sign_token bytes o ≡ Some x → TokenFits bytes x
 sign_token_fits bytes None x is e = absurd cc
@@ -161,7 +216,7 @@ first_fits (b ∷ bytes) x e =
     chosen_by (is_letter b) _ _ e
     (λ is f. subst (λ (y : Token × List ℕ). TokenFits (b ∷ bytes) y) (some_same _ x f) (front_fits is_name_byte b bytes (letter_in b is)))
     λ isnt e. chosen_by (is_digit b) _ _ e
-    (λ is f. subst (λ (y : Token × List ℕ). TokenFits (b ∷ bytes) y) (some_same _ x f) (let fits = front_fits is_digit b bytes is in (omega (arith, fits.0, fits.1), omega arith)))
+    (λ is f. subst (λ (y : Token × List ℕ). TokenFits (b ∷ bytes) y) (some_same _ x f) (digits_fit b bytes is))
     λ isnt e. chosen_by (b == 34) _ _ e (λ is f. quoted_fits bytes x f)
     λ isnt e. chosen_by (b == 46) _ _ e (λ is f. stop_fits bytes x f)
     λ isnt e. sign_token_fits (b ∷ bytes) (sign_at (b ∷ bytes)) x refl e

@@ -7,9 +7,9 @@ use Rattle.pm_top.specs.Script.{IsOperand, Binding, IsFormula, IsStatement, IsSe
 use Rattle.pm_top.specs.Script as g
 use Rattle.pm_top.specs.Connectives.{connectives}
 use Rattle.pm_top.specs.Sentence.{Sentence, Lemma}
-use Rattle.pm_top.specs.Tokens.{Token, word, number, quoted, sign, Place, place, token_at, tokens_at, past, is_blank, first_token, AreTokens}
+use Rattle.pm_top.specs.Tokens.{Token, word, number, quoted, sign, Place, place, token_at, tokens_at, number_of, past, is_blank, first_token, AreTokens}
 use Rattle.pm_top.specs.Tokens as cut
-use Rattle.pm_top.proofs.ScriptCut.{same_tokens, token_bytes, first_fits, past_fits}
+use Rattle.pm_top.proofs.ScriptCut.{same_tokens, token_bytes, number_some, first_fits, past_fits}
 use Rattle.pm_top.proofs.ScriptSteps.{some_same}
 use Rattle.pm_top.proofs.ScriptWhole.{same_sentences}
 use Rattle.std.proofs.lemmas.List.{map-append}
@@ -34,17 +34,17 @@ too_many bytes ps ss h read many us k =
 
 -- ---- a lemma is small
 
-abbrev bytes_of : List Token → ℕ
+abbrev pub bytes_of : List Token → ℕ
 bytes_of [] = 0
 bytes_of (t ∷ ts) = token_bytes t + bytes_of ts
 
-bytes-append : (xs ys : List Token) → bytes_of (xs ++ ys) ≡ bytes_of xs + bytes_of ys
+pub bytes-append : (xs ys : List Token) → bytes_of (xs ++ ys) ≡ bytes_of xs + bytes_of ys
 bytes-append [] ys = omega arith
 bytes-append (x ∷ xs) ys = let more = bytes-append xs ys in omega arith
 
-operand_bytes : (xs : List Token) (z : ℤ) → IsOperand xs z → 1 ≤ bytes_of xs
-operand_bytes xs z (g.literal h) = omega arith
-operand_bytes xs z (g.negative h) = omega arith
+pub operand_bytes : (xs : List Token) (z : ℤ) → IsOperand xs z → 1 ≤ bytes_of xs
+operand_bytes xs z (g.literal {ds = ds} h) = omega (arith, number_some (number_of ds))
+operand_bytes xs z (g.negative {ds = ds} h) = omega (arith, number_some (number_of ds))
 operand_bytes xs z (g.IsOperand.group h) = omega arith
 
 formula_bytes : (b : Binding) (xs : List Token) (f : Formula) → IsFormula b xs f → 5 * connectives f + 4 ≤ bytes_of xs
@@ -69,7 +69,7 @@ sentence_bytes xs x g.intros n f e = absurd cc
 sentence_bytes xs x g.exact n f e = absurd cc
 sentence_bytes xs x g.qed n f e = absurd cc
 
-tokens-append : (ps qs : List Place) → tokens_at (ps ++ qs) ≡ tokens_at ps ++ tokens_at qs
+pub tokens-append : (ps qs : List Place) → tokens_at (ps ++ qs) ≡ tokens_at ps ++ tokens_at qs
 tokens-append ps qs = map-append token_at ps qs
 
 sentences_bytes : (ps : List Place) (ss : List (ℕ × Sentence)) → AreSentences ps ss → (i at : ℕ) (n : List ℕ) (f : Formula) → slice_get ss i ≡ Some (at, Lemma n f) → 5 * connectives f + 4 ≤ bytes_of (tokens_at ps)
@@ -82,7 +82,7 @@ sentences_bytes ps ss (g.AreSentences.next {t = t} {at = o} {rest = rest} {s = x
     let later = sentences_bytes rest us more i at n f e in
     omega (arith, later, ap bytes_of (tokens-append qs (place (sign s.Stop) there ∷ rest)), bytes-append (tokens_at qs) (tokens_at (place (sign s.Stop) there ∷ rest)))
 
-tokens_bytes : (whole : ℕ) (bytes : List ℕ) (ps : List Place) → AreTokens whole bytes ps → bytes_of (tokens_at ps) ≤ length bytes
+pub tokens_bytes : (whole : ℕ) (bytes : List ℕ) (ps : List Place) → AreTokens whole bytes ps → bytes_of (tokens_at ps) ≤ length bytes
 tokens_bytes whole bytes ps (cut.end e) = omega arith
 tokens_bytes whole bytes ps (cut.next {rest = rest} {t = t} {ps = qs} e h) =
     let later = tokens_bytes whole rest qs h in

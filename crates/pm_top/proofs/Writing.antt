@@ -35,7 +35,7 @@ two_before word p q rest before_p before_q =
     ap (λ t. word ++ t) (before_p (32 ∷ formula_text q rest) ∙ ap (λ t. formula_text p [] ++ (32 ∷ t)) (before_q rest) ∙ sym (append_assoc (formula_text p []) (32 ∷ formula_text q []) rest) ∙ ap (λ t. t ++ rest) (sym (before_p (32 ∷ formula_text q []))))
     ∙ sym (append_assoc word (formula_text p (32 ∷ formula_text q [])) rest)
 
-formula_before : (f : Formula) (rest : List ℕ) → formula_text f rest ≡ formula_text f [] ++ rest
+pub formula_before : (f : Formula) (rest : List ℕ) → formula_text f rest ≡ formula_text f [] ++ rest
 unfolding formula_text
 formula_before (Fact pure.True) rest = refl
 formula_before (Sep p q) rest = two_before (codes "sep ") p q rest (λ r. formula_before p r) (λ r. formula_before q r)
@@ -50,7 +50,7 @@ pub text_sep : (p q : Formula) → formula_text (Sep p q) [] ≡ codes "sep " ++
 unfolding formula_text
 text_sep p q = ap (λ t. codes "sep " ++ t) (formula_before p (32 ∷ formula_text q []))
 
-text_wand : (p q : Formula) → formula_text (Wand p q) [] ≡ codes "wand " ++ (formula_text p [] ++ (codes " " ++ formula_text q []))
+pub text_wand : (p q : Formula) → formula_text (Wand p q) [] ≡ codes "wand " ++ (formula_text p [] ++ (codes " " ++ formula_text q []))
 unfolding formula_text
 text_wand p q = ap (λ t. codes "wand " ++ t) (formula_before p (32 ∷ formula_text q []))
 
@@ -244,7 +244,7 @@ length_onto : (hs : List Hyp) (older : List Formula) → length (onto hs older) 
 length_onto [] older = omega arith
 length_onto (h ∷ hs) older = let inner = length_onto hs (h.formula ∷ older) in omega (arith, inner)
 
-length_newest : (hs : List Hyp) → length (newest_first hs) ≡ length hs
+pub length_newest : (hs : List Hyp) → length (newest_first hs) ≡ length hs
 length_newest hs = let e = length_onto hs [] in omega (arith, e)
 
 length_front : (hs : List Hyp) (n : ℕ) → n ≤ length hs → length (take n hs) ≡ n

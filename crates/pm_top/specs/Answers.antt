@@ -59,9 +59,9 @@ pub data Checks (bytes : List ℕ) : Status → List ℕ → Type 0 where
   unreadable : length bytes ≤ limit → ((ls : List Line) → ¬ IsSmallText bytes ls) → Checks bytes status.Unreadable unreadable_line
   too_long : limit < length bytes → Checks bytes status.TooLong too_long_line
 
--- what `run` answers to an input, and what it writes for it: a derivation of exactly the script's lemma, or a line
+-- what `run` answers to an input, and what it writes for it: a derivation of exactly the script's lemma, no longer than `check` takes, or a line
 pub data Runs (bytes : List ℕ) : Status → List ℕ → Type 0 where
-  proves : (ss : List (ℕ × Sentence)) (lemma : Option (List ℕ × Formula)) (text : List ℕ) → length bytes ≤ limit → IsSmallScript bytes ss → RunsTo (length bytes) ss (accepted lemma) → Derives text lemma → Runs bytes status.Done text
+  proves : (ss : List (ℕ × Sentence)) (lemma : Option (List ℕ × Formula)) (text : List ℕ) → length bytes ≤ limit → IsSmallScript bytes ss → RunsTo (length bytes) ss (accepted lemma) → length text ≤ limit → Derives text lemma → Runs bytes status.Done text
   refuses : (ss : List (ℕ × Sentence)) (sentence offset : ℕ) (row : Row) (name : Option (List ℕ)) → length bytes ≤ limit → IsSmallScript bytes ss → RunsTo (length bytes) ss (refused sentence offset row name) → Runs bytes status.Refused (refusal_line sentence offset row name)
   unreadable : length bytes ≤ limit → ((ss : List (ℕ × Sentence)) → ¬ IsSmallScript bytes ss) → Runs bytes status.Unreadable unreadable_line
   too_long : limit < length bytes → Runs bytes status.TooLong too_long_line

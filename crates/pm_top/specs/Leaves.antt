@@ -1,11 +1,15 @@
 -- What a run leaves: at the sink by its status, and of the source.
-use Rattle.std.specs.Prelude.{◌≡◌, ◌⊎◌, ℕ, List, [], Option, Some, None, IsSome, ⊤}
+use Rattle.std.specs.Prelude.{◌≡◌, ◌⊎◌, ℕ, List, [], length, Option, Some, None, IsSome, ⊤}
 use Rattle.std.specs.Io.KnownBytes.{Appends, Keeps}
 use Rattle.pm_top.specs.Taken.{AppendsFront}
 use Rattle.pm_top.specs.declared.command.Command.{Command}
 use Rattle.pm_top.specs.declared.command.Command.TheVariants.{Run}
 use Rattle.pm_top.specs.declared.status.Status.{Status}
 use Rattle.pm_top.specs.declared.status.Status.TheVariants as status
+use Rattle.pm_logic.specs.declared.formula.Formula.{Formula}
+use Rattle.pm_top.specs.Sentence.{Sentence}
+use Rattle.pm_top.specs.Script.{IsSmallScript}
+use Rattle.pm_top.specs.Running.{accepted, RunsTo}
 use Rattle.pm_top.specs.Answers.{Defines}
 
 -- a status that the words and the input alone decide
@@ -47,6 +51,8 @@ DefinesText _ _ = ⊤
 -- where the input is told: an answer is the one that is defined, and its text was written whole
 pub record IsDefined (command : Option Command) (input : Option (List ℕ)) (old new : Option (List ℕ)) (r : Status) : Type 0 where
   pub only : (bytes : List ℕ) → input ≡ Some bytes → (s : Status) (text : List ℕ) → Defines command input s text → IsAnswer r → (r ≡ s) × (DefinesText command s → Appends old new text)
+  -- a script of which no sentence is refused is answered by success
+  pub accepts : (bytes : List ℕ) → input ≡ Some bytes → command ≡ Some Run → (ss : List (ℕ × Sentence)) (lemma : Option (List ℕ × Formula)) → IsSmallScript bytes ss → RunsTo (length bytes) ss (accepted lemma) → IsAnswer r → r ≡ status.Done
 
 -- where the source tells, it is at its end
 abbrev pub IsReadToEnd : Option (List ℕ) → Option (List ℕ) → Type 0

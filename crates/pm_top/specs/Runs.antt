@@ -1,5 +1,5 @@
 -- What the code of a run answers, against what a run comes to.
-use Rattle.std.specs.Prelude.{◌≡◌, ℕ, ◌-◌, false, List, [], ◌∷◌, length, Option, Some, None, ⊤}
+use Rattle.std.specs.Prelude.{◌≡◌, ℕ, suc, ◌+◌, ◌-◌, ◌≤◌, false, List, [], ◌∷◌, length, Option, Some, None, ⊤}
 use Rattle.std.specs.List.{AllByRecursion}
 use Rattle.pm_logic.specs.declared.formula.Formula.{Formula}
 use Rattle.pm_goal.specs.declared.goal.Goal.{Goal}
@@ -45,10 +45,23 @@ abbrev pub IsProof : Run → Type 0
 IsProof (run.Proved goal place) = IsClosedBy goal place
 IsProof _ = ⊤
 
+abbrev pub intro_count : List (ℕ × Sentence) → ℕ
+intro_count [] = 0
+intro_count ((at, Lemma name f) ∷ ss) = intro_count ss
+intro_count ((at, Intros name) ∷ ss) = suc (intro_count ss)
+intro_count ((at, Exact name) ∷ ss) = intro_count ss
+intro_count ((at, Qed) ∷ ss) = intro_count ss
+
+-- a goal that was closed has so many hypotheses at most
+abbrev pub HasFew : ℕ → Run → Type 0
+HasFew most (run.Proved goal place) = length goal.spats ≤ most
+HasFew most _ = ⊤
+
 -- what comes of sentences behind an open goal
 pub record RunsFrom (size next : ℕ) (goal : Goal) (rest : List (ℕ × Sentence)) (r : Run) : Type 0 where
   pub outcome : (name : List ℕ) → InProof size (name, whole goal) next (goal ∷ []) rest (outcome_of name r)
   pub proof : IsProof r
+  pub few : HasFew (length goal.spats + intro_count rest) r
 
 -- what a closed goal comes to
 abbrev pub closed_run : Goal → ℕ → Option Stop → Run
@@ -64,6 +77,7 @@ lemma_name (x ∷ ss) = named x.1
 pub record ComesTo (size : ℕ) (ss : List (ℕ × Sentence)) (r : Run) : Type 0 where
   pub outcome : RunsTo size ss (outcome_of (lemma_name ss) r)
   pub proof : IsProof r
+  pub few : HasFew (intro_count ss) r
 
 -- what `run` answers, by what the sentences came to
 abbrev pub RunAnswer : List (ℕ × Sentence) → Run → Status × List ℕ → Type 0
