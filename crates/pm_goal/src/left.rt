@@ -5,7 +5,7 @@ ghost use Rattle.pm_goal.specs.Left.{left_of, star_onto, facts, hyps};
 ghost use Rattle.pm_logic.specs.declared.formula.Formula.TheViews as view;
 
 use crate::goal::{Fact, Goal, Hyp};
-use pm_logic::{Formula, Memory, Pure, copy};
+use pm_logic::{Formula, Memory, Pure, copy, copy_pure};
 use sqlite_items::Boxed;
 use std::alloc::Global;
 
@@ -13,14 +13,6 @@ fn star(alloc: Global, a: Formula, b: Formula) -> Result<Formula, Memory>
     ensures { IfOk result (λ f. f ≡ view.Sep a b) }
 {
     Ok(Formula::Sep(Boxed::new(alloc, a)?, Boxed::new(alloc, b)?))
-}
-
-fn assertion(fact: &Fact) -> Formula
-    ensures { result ≡ Formula.Pure fact.now.pure }
-{
-    match fact.pure {
-        Pure::True => Formula::Pure(Pure::True),
-    }
 }
 
 #[tactic(auto, using(crate::proofs::Stars::star_none))]
@@ -45,7 +37,8 @@ fn facts_onto(alloc: Global, list: &[Fact], end: Formula) -> Result<Formula, Mem
     let mut i = list.len();
     while i > 0 {
         i -= 1;
-        left = star(alloc, assertion(&list[i]), left)?;
+        let asserted = Formula::Pure(copy_pure(alloc, &list[i].pure)?);
+        left = star(alloc, asserted, left)?;
     }
     Ok(left)
 }

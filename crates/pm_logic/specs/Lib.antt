@@ -1,4 +1,13 @@
 pub mod Trees
 pub mod Values
 pub mod Scope
+pub mod Guard
+pub mod Classes
 pub mod Size
+pub mod Bounds
+pub mod Substitution
+pub mod Changes
+pub mod Abstraction
+pub mod Kept
+pub mod Nodes
+pub mod Walks

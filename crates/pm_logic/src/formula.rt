@@ -7,30 +7,70 @@ use sqlite_items::Boxed;
 /// The units of a whole points-to: the least common multiple of 1 to 16.
 pub const UNIT: u32 = 720_720;
 
+/// The most that is handed to a call: the number of variables plus the depth of a formula, the indices of terms, and
+/// their depths.
+pub const BOUND: u32 = 1_000_000_000;
+
 /// A term, whose value is an integer.
-#[derive(Debug, Drop)]
+#[derive(Debug)]
 pub enum Term {
     /// The integer itself.
     Lit(i64),
+    /// The variable of this de Bruijn index, 0 the innermost.
+    Var(u32),
+    /// The first plus the second.
+    Add(Boxed<Term>, Boxed<Term>),
+    /// The first minus the second.
+    Sub(Boxed<Term>, Boxed<Term>),
+    /// The term's value with the other sign.
+    Neg(Boxed<Term>),
+    /// The factor times the term.
+    Scale(i64, Boxed<Term>),
 }
 
 /// A formula about integers alone.
-#[derive(Debug, Drop)]
+#[derive(Debug)]
 pub enum Pure {
     True,
+    False,
+    /// The values are equal.
+    Eq(Term, Term),
+    /// The first value is at most the second.
+    Le(Term, Term),
+    /// The first value is below the second.
+    Lt(Term, Term),
+    And(Boxed<Pure>, Boxed<Pure>),
+    Or(Boxed<Pure>, Boxed<Pure>),
+    Not(Boxed<Pure>),
 }
 
 /// A formula about resources.
-#[derive(Debug, Drop)]
+#[derive(Debug)]
 pub enum Formula {
     /// The pure formula holds.
     Pure(Pure),
     /// The resource has two parts, of which the first meets the first formula and the second the second.
     Sep(Boxed<Formula>, Boxed<Formula>),
-    /// Whatever resource meets the first formula, together with it the resource meets the second, at this step and below.
+    /// Together with any resource that meets the first formula it meets the second.
     Wand(Boxed<Formula>, Boxed<Formula>),
+    And(Boxed<Formula>, Boxed<Formula>),
+    Or(Boxed<Formula>, Boxed<Formula>),
+    /// Where a larger resource meets the first formula it meets the second.
+    Imp(Boxed<Formula>, Boxed<Formula>),
+    /// For every integer, which is index 0 in the part.
+    All(Boxed<Formula>),
+    /// For some integer, which is index 0 in the part.
+    Ex(Boxed<Formula>),
+    /// One step later.
+    Later(Boxed<Formula>),
+    /// By the resource's core.
+    Pers(Boxed<Formula>),
+    /// After an update of the resource.
+    Upd(Boxed<Formula>),
     /// The location has at least this many units, 1 to `UNIT`, with the value.
     Pts { loc: Term, units: u32, val: Term },
+    /// The body of the predicate in this place of the table, with these terms as its parameters.
+    Call { pred: u32, args: List<Term> },
 }
 
 /// A predicate. Its body is scoped in its arity, and parameter `j`, counted from 0, is index `j`.
@@ -45,4 +85,62 @@ pub struct Pred {
 #[derive(Debug, Drop)]
 pub struct Preds {
     pub list: List<Pred>,
+}
+
+// Written out, since a contract then sees one call where a value is let go, and not the layout of the tree.
+
+impl Drop for Term {
+    fn drop(self) {
+        match self {
+            Term::Lit(_) | Term::Var(_) => {}
+            Term::Add(a, b) | Term::Sub(a, b) => {
+                drop(a);
+                drop(b);
+            }
+            Term::Neg(a) | Term::Scale(_, a) => drop(a),
+        }
+    }
+}
+
+impl Drop for Pure {
+    fn drop(self) {
+        match self {
+            Pure::True | Pure::False => {}
+            Pure::Eq(s, t) | Pure::Le(s, t) | Pure::Lt(s, t) => {
+                drop(s);
+                drop(t);
+            }
+            Pure::And(a, b) | Pure::Or(a, b) => {
+                drop(a);
+                drop(b);
+            }
+            Pure::Not(a) => drop(a),
+        }
+    }
+}
+
+impl Drop for Formula {
+    fn drop(self) {
+        match self {
+            Formula::Pure(p) => drop(p),
+            Formula::Sep(a, b)
+            | Formula::Wand(a, b)
+            | Formula::And(a, b)
+            | Formula::Or(a, b)
+            | Formula::Imp(a, b) => {
+                drop(a);
+                drop(b);
+            }
+            Formula::All(a)
+            | Formula::Ex(a)
+            | Formula::Later(a)
+            | Formula::Pers(a)
+            | Formula::Upd(a) => drop(a),
+            Formula::Pts { loc, units: _, val } => {
+                drop(loc);
+                drop(val);
+            }
+            Formula::Call { pred: _, args } => drop(args),
+        }
+    }
 }

@@ -1,16 +1,33 @@
 //! The logic: lists, names, terms, formulas and predicates, and calls over them.
 #![tactic(auto)]
 
-mod copying;
+mod change;
+mod classes;
+mod compare;
 mod equality;
+mod filling;
 mod formula;
+mod guarding;
 mod list;
 mod name;
+mod node;
+mod raising;
+mod replace;
 mod scoping;
+mod size;
+mod substitution;
+#[cfg(test)]
+mod tests;
 
-pub use copying::copy;
+pub use classes::{persistent, timeless};
 pub use equality::{same, same_pure, same_term};
-pub use formula::{Formula, Pred, Preds, Pure, Term, UNIT};
+pub use formula::{BOUND, Formula, Pred, Preds, Pure, Term, UNIT};
+pub use guarding::guarded;
 pub use list::{Bytes, List, Memory};
 pub use name::{Name, copy_name};
 pub use scoping::scoped;
+pub use size::{depth, nodes};
+pub use substitution::{
+    abstract_term, abstracted_opens, are_substitutions, copy, copy_pure, copy_term,
+    equality_is_tested, is_opened, is_shift, is_subst, opened, scope_is_kept, shift, subst,
+};

@@ -107,7 +107,7 @@ impl List<u8> {
         Ok(())
     }
 
-    /// A list of these bytes.
+    /// A list of these bytes. The error is want of memory, and then there is no list.
     pub fn from_slice(alloc: Global, piece: &[u8]) -> Result<List<u8>, Memory>
         ensures { IfOk result (λ bytes. bytes ≡ piece.now) }
     {

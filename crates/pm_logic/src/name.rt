@@ -21,7 +21,7 @@ impl Model for Name {
 }
 
 impl Name {
-    /// The name that is spelled so.
+    /// The name that is spelled so. The error is want of memory, and then there is no name.
     pub fn new(alloc: Global, text: &str) -> Result<Name, Memory>
         ensures { IfOk result (λ name. name ≡ text.now) }
     {
@@ -29,7 +29,7 @@ impl Name {
         Ok(Name { text })
     }
 
-    /// The name of these bytes.
+    /// The name of these bytes. The error is want of memory, and then there is no name.
     pub fn from_bytes(alloc: Global, text: &[u8]) -> Result<Name, Memory>
         ensures { IfOk result (λ name. name ≡ text.now) }
     {
@@ -45,7 +45,7 @@ impl Name {
     }
 }
 
-/// The same name once more.
+/// The same name once more. The error is want of memory, and then there is no copy; the name is as before.
 pub fn copy_name(alloc: Global, name: &Name) -> Result<Name, Memory>
     ensures { IfOk result (λ copy. copy ≡ name.now) }
 {

@@ -5,13 +5,13 @@ use Rattle.pm_model.specs.Forcing.{HasAtLeast}
 
 -- ---- one location
 
-compatible_comm : (a b : Content) → Compatible a b → Compatible b a
+pub compatible_comm : (a b : Content) → Compatible a b → Compatible b a
 compatible_comm Empty Empty h = tt
 compatible_comm Empty (Has w x) h = tt
 compatible_comm (Has u v) Empty h = tt
 compatible_comm (Has u v) (Has w x) h = (sym h.0, omega arith)
 
-plus_comm : (a b : Content) → Compatible a b → plus a b ≡ plus b a
+pub plus_comm : (a b : Content) → Compatible a b → plus a b ≡ plus b a
 plus_comm Empty Empty h = refl
 plus_comm Empty (Has w x) h = refl
 plus_comm (Has u v) Empty h = refl
@@ -26,12 +26,12 @@ regroup (Has u v) Empty c h k = (tt, k, refl)
 regroup (Has u v) (Has w x) Empty h k = (tt, h, refl)
 regroup (Has u v) (Has w x) (Has y z) h k = ((sym h.0 ∙ k.0, omega arith), (h.0, omega arith), ap (λ n. Has n v) (add_assoc u w y))
 
-valid_plus : (a b : Content) → IsValid a → IsValid b → Compatible a b → IsValid (plus a b)
+pub valid_plus : (a b : Content) → IsValid a → IsValid b → Compatible a b → IsValid (plus a b)
 valid_plus Empty b h k c = k
 valid_plus (Has u v) Empty h k c = h
 valid_plus (Has u v) (Has w x) h k c = (omega arith, c.1)
 
-plus_empty : (a : Content) → plus a Empty ≡ a
+pub plus_empty : (a : Content) → plus a Empty ≡ a
 plus_empty Empty = refl
 plus_empty (Has u v) = refl
 

@@ -1,2 +1,9 @@
 pub mod Joins
+pub mod Core
+pub mod Single
 pub mod Steps
+pub mod Agree
+pub mod Bounds
+pub mod Values
+pub mod Merge
+pub mod Heaps

@@ -2,3 +2,4 @@ pub mod Resource
 pub mod Forcing
 pub mod Entailment
 pub mod Laws
+pub mod Heap

@@ -46,6 +46,6 @@ pub record Extends (a c : Res) : Type 0 where
 unfoldable pub nothing : Res
 nothing = record { at = λ l. Empty; valid = λ l. tt; bound = 0; beyond = λ l h. refl }
 
--- what of a resource may be had any number of times
-abbrev pub core : Res → Res
+-- what of a resource may be had any number of times: nothing
+unfoldable pub core : Res → Res
 core r = nothing

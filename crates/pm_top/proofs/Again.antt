@@ -11,20 +11,19 @@ use Rattle.std.proofs.lemmas.Fmt.{decimal_is_IsNumeral}
 use Rattle.std.proofs.lemmas.Slice.Eq.{bytes_eq-Decides}
 use Rattle.std.proofs.lemmas.Str.Parse.{tells_digits}
 use Rattle.pm_logic.specs.declared.formula.Term.{Term}
-use Rattle.pm_logic.specs.declared.formula.Term.TheVariants.{Lit}
+use Rattle.pm_logic.specs.declared.formula.Term.TheVariants.{Lit, Var}
 use Rattle.pm_logic.specs.declared.formula.Pure.TheVariants as pure
 use Rattle.pm_logic.specs.declared.formula.Formula.{Formula}
-use Rattle.pm_logic.specs.declared.formula.Formula.TheVariants.{Pure as Fact, Pts}
+use Rattle.pm_logic.specs.declared.formula.Formula.TheVariants.{Pure as Fact, Pts, Call}
 use Rattle.pm_logic.specs.declared.formula.Formula.TheViews as view
 use Rattle.pm_logic.specs.declared.formula.TheConstants.{UNIT}
-use Rattle.pm_logic.specs.Trees.{Sep, Wand}
-use Rattle.pm_logic.specs.Scope.{Scoped, no_predicates}
+use Rattle.pm_logic.specs.Trees.{add, sub, neg, scale, both, either, nope, Sep, Wand, And, Or, Imp, All, Ex, Later, Pers, Upd}
 use Rattle.pm_logic.specs.Size.{term_depth, pure_depth, depth_of}
 use Rattle.pm_logic.proofs.Views.{view_sep, view_wand}
 use Rattle.pm_top.specs.declared.fault.Fault.{Fault}
 use Rattle.pm_top.specs.declared.fault.Fault.TheVariants.{Syntax}
-use Rattle.pm_top.specs.Spelling.{term_text, formula_text}
-use Rattle.pm_top.specs.Literals.{IsI64, TermLiteralsFit, LiteralsFit}
+use Rattle.pm_top.specs.Spelling.{term_text, pure_text, formula_text}
+use Rattle.pm_top.specs.Small.{IsI64, IsSmallTerm, IsSmallPure, IsSmallFormula}
 use Rattle.pm_top.specs.Reading.{is_word_byte, word, after, expect_at, skip_at, or_syntax, number_of, number_at, literal_of, positive, negative, term_at, truth_at, units_at, points_at, sides_of, two_at, formula_with, formula_at}
 use Rattle.pm_top.proofs.Numbers.{number_again, first_digit}
 use Rattle.pm_top.proofs.Steps.{if_true, if_false, both_true, true_both, true_le, true_lt, false_eq}
@@ -133,12 +132,17 @@ literal_word (negsuc n) h = decimal_word (suc n) (omega arith)
 some_levels : (levels : ℕ) → 0 < levels → (levels == 0) ≡ false
 some_levels levels h = false_eq levels 0 (λ e. absurd (omega arith))
 
-pub term_again : (t : Term) (levels : ℕ) (rest : List ℕ) → TermLiteralsFit t → term_depth t ≤ levels → stops rest ≡ true → term_at levels (term_text t rest) ≡ Ok (t, rest)
-unfolding term_at TermLiteralsFit term_depth
+pub term_again : (t : Term) (levels : ℕ) (rest : List ℕ) → IsSmallTerm t → term_depth t ≤ levels → stops rest ≡ true → term_at levels (term_text t rest) ≡ Ok (t, rest)
+unfolding term_at term_text IsSmallTerm term_depth
 term_again (Lit z) levels rest fits deep e =
     let more : (levels == 0) ≡ false = some_levels levels deep in
     let read : or_syntax (literal_of (word (signed_decimal z ++ rest))) (signed_decimal z ++ rest) ≡ Ok (z, rest) = or_syntax_again literal_of (signed_decimal z) rest z (literal_word z fits) e (literal_again z fits) in
     rw more (rw read refl)
+term_again (Var i) levels rest fits deep e = absurd fits
+term_again (add s t) levels rest fits deep e = absurd fits
+term_again (sub s t) levels rest fits deep e = absurd fits
+term_again (neg t) levels rest fits deep e = absurd fits
+term_again (scale z t) levels rest fits deep e = absurd fits
 
 units_again : (u : ℕ) (rest : List ℕ) → 1 ≤ u → u ≤ UNIT → stops rest ≡ true → units_at (decimal u ++ rest) ≡ Ok (u, rest)
 unfolding units_at
@@ -158,13 +162,13 @@ unfolding formula_with points_at skip_at
 points_again levels inner l u v a b c rest loc units val = rw loc (rw units (rw val refl))
 
 abbrev ReadsAgain : ℕ → Formula → Type 0
-ReadsAgain levels f = (rest : List ℕ) → Scoped no_predicates 0 f → LiteralsFit f → depth_of f ≤ levels → stops rest ≡ true → formula_at levels (formula_text f rest) ≡ Ok (f, rest)
+ReadsAgain levels f = (rest : List ℕ) → IsSmallFormula f → depth_of f ≤ levels → stops rest ≡ true → formula_at levels (formula_text f rest) ≡ Ok (f, rest)
 
-two_again : (make : Formula → Formula → Formula) (levels : ℕ) (p q : Formula) (rest : List ℕ) → ReadsAgain levels p → ReadsAgain levels q → Scoped no_predicates 0 p × Scoped no_predicates 0 q → LiteralsFit p × LiteralsFit q → max (depth_of p) (depth_of q) ≤ levels → stops rest ≡ true → two_at make (formula_at levels) (32 ∷ formula_text p (32 ∷ formula_text q rest)) ≡ Ok (make p q, rest)
+two_again : (make : Formula → Formula → Formula) (levels : ℕ) (p q : Formula) (rest : List ℕ) → ReadsAgain levels p → ReadsAgain levels q → IsSmallFormula p × IsSmallFormula q → max (depth_of p) (depth_of q) ≤ levels → stops rest ≡ true → two_at make (formula_at levels) (32 ∷ formula_text p (32 ∷ formula_text q rest)) ≡ Ok (make p q, rest)
 unfolding two_at sides_of skip_at
-two_again make levels p q rest each_p each_q scoped literals deep e =
-    let left : formula_at levels (formula_text p (32 ∷ formula_text q rest)) ≡ Ok (p, 32 ∷ formula_text q rest) = each_p (32 ∷ formula_text q rest) scoped.0 literals.0 (omega arith) refl in
-    let right : formula_at levels (formula_text q rest) ≡ Ok (q, rest) = each_q rest scoped.1 literals.1 (omega arith) e in
+two_again make levels p q rest each_p each_q small deep e =
+    let left : formula_at levels (formula_text p (32 ∷ formula_text q rest)) ≡ Ok (p, 32 ∷ formula_text q rest) = each_p (32 ∷ formula_text q rest) small.0 (omega arith) refl in
+    let right : formula_at levels (formula_text q rest) ≡ Ok (q, rest) = each_q rest small.1 (omega arith) e in
     rw left (rw right refl)
 
 some_depth : (f : Formula) → 0 < depth_of f
@@ -172,18 +176,43 @@ unfolding depth_of
 some_depth (Fact a) = omega arith
 some_depth (Sep p q) = omega arith
 some_depth (Wand p q) = omega arith
+some_depth (And p q) = omega arith
+some_depth (Or p q) = omega arith
+some_depth (Imp p q) = omega arith
+some_depth (All p) = omega arith
+some_depth (Ex p) = omega arith
+some_depth (Later p) = omega arith
+some_depth (Pers p) = omega arith
+some_depth (Upd p) = omega arith
+some_depth (Call p ts) = omega arith
 some_depth (Pts l u v) = omega arith
 
-pub formula_again : (f : Formula) (levels : ℕ) (rest : List ℕ) → Scoped no_predicates 0 f → LiteralsFit f → depth_of f ≤ levels → stops rest ≡ true → formula_at levels (formula_text f rest) ≡ Ok (f, rest)
-unfolding formula_text formula_at formula_with Scoped LiteralsFit depth_of pure_depth
-formula_again f zero rest scoped literals deep e = absurd (omega (arith, some_depth f))
-formula_again (Fact pure.True) (suc n) rest scoped literals deep e = truth_again n (formula_at n) rest (omega arith) e
-formula_again (Sep p q) (suc n) rest scoped literals deep e =
-    two_again view.Sep n p q rest (λ r. formula_again p n r) (λ r. formula_again q n r) scoped literals (omega arith) e ∙ ap (λ f. Ok (f, rest)) (view_sep p q)
-formula_again (Wand p q) (suc n) rest scoped literals deep e =
-    two_again view.Wand n p q rest (λ r. formula_again p n r) (λ r. formula_again q n r) scoped literals (omega arith) e ∙ ap (λ f. Ok (f, rest)) (view_wand p q)
-formula_again (Pts l u v) (suc n) rest scoped literals deep e =
+pub formula_again : (f : Formula) (levels : ℕ) (rest : List ℕ) → IsSmallFormula f → depth_of f ≤ levels → stops rest ≡ true → formula_at levels (formula_text f rest) ≡ Ok (f, rest)
+unfolding pure_text formula_text formula_at formula_with IsSmallPure IsSmallFormula depth_of pure_depth
+formula_again f zero rest small deep e = absurd (omega (arith, some_depth f))
+formula_again (Fact pure.True) (suc n) rest small deep e = truth_again n (formula_at n) rest (omega arith) e
+formula_again (Fact pure.False) (suc n) rest small deep e = absurd small
+formula_again (Fact (pure.Eq s t)) (suc n) rest small deep e = absurd small
+formula_again (Fact (pure.Le s t)) (suc n) rest small deep e = absurd small
+formula_again (Fact (pure.Lt s t)) (suc n) rest small deep e = absurd small
+formula_again (Fact (both a b)) (suc n) rest small deep e = absurd small
+formula_again (Fact (either a b)) (suc n) rest small deep e = absurd small
+formula_again (Fact (nope a)) (suc n) rest small deep e = absurd small
+formula_again (Sep p q) (suc n) rest small deep e =
+    two_again view.Sep n p q rest (λ r. formula_again p n r) (λ r. formula_again q n r) small (omega arith) e ∙ ap (λ f. Ok (f, rest)) (view_sep p q)
+formula_again (Wand p q) (suc n) rest small deep e =
+    two_again view.Wand n p q rest (λ r. formula_again p n r) (λ r. formula_again q n r) small (omega arith) e ∙ ap (λ f. Ok (f, rest)) (view_wand p q)
+formula_again (And p q) (suc n) rest small deep e = absurd small
+formula_again (Or p q) (suc n) rest small deep e = absurd small
+formula_again (Imp p q) (suc n) rest small deep e = absurd small
+formula_again (All p) (suc n) rest small deep e = absurd small
+formula_again (Ex p) (suc n) rest small deep e = absurd small
+formula_again (Later p) (suc n) rest small deep e = absurd small
+formula_again (Pers p) (suc n) rest small deep e = absurd small
+formula_again (Upd p) (suc n) rest small deep e = absurd small
+formula_again (Call p ts) (suc n) rest small deep e = absurd small
+formula_again (Pts l u v) (suc n) rest small deep e =
     points_again n (formula_at n) l u v (term_text l (32 ∷ (decimal u ++ (32 ∷ term_text v rest)))) (decimal u ++ (32 ∷ term_text v rest)) (term_text v rest) rest
-    (term_again l n (32 ∷ (decimal u ++ (32 ∷ term_text v rest))) literals.0 (omega arith) refl)
-    (units_again u (32 ∷ term_text v rest) scoped.1 scoped.2 refl)
-    (term_again v n rest literals.1 (omega arith) e)
+    (term_again l n (32 ∷ (decimal u ++ (32 ∷ term_text v rest))) small.0 (omega arith) refl)
+    (units_again u (32 ∷ term_text v rest) small.1 small.2 refl)
+    (term_again v n rest small.3 (omega arith) e)

@@ -94,8 +94,8 @@ no_variables e h = rw (sym h) refl
 sides_again : (e : Entail) (rest : List ℕ) → e.vars ≡ 0 → FormulaFits e.left → FormulaFits e.right → stops rest ≡ true → sides_at (32 ∷ formula_text e.left (32 ∷ formula_text e.right rest)) ≡ Ok (e, rest)
 sides_again e rest closed left right s =
     sides_read e.left e.right (formula_text e.left (32 ∷ formula_text e.right rest)) (formula_text e.right rest) rest
-    (formula_again e.left 1000 (32 ∷ formula_text e.right rest) left.scoped left.literals left.levels refl)
-    (formula_again e.right 1000 rest right.scoped right.literals right.levels s)
+    (formula_again e.left 1000 (32 ∷ formula_text e.right rest) left.small left.levels refl)
+    (formula_again e.right 1000 rest right.small right.levels s)
     ∙ ap (λ x. Ok (x, rest)) (no_variables e closed)
 
 -- ---- lines

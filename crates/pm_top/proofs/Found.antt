@@ -14,13 +14,12 @@ use Rattle.pm_logic.specs.declared.formula.Formula.{Formula}
 use Rattle.pm_logic.specs.declared.formula.Formula.TheVariants.{Pure as Fact, Pts}
 use Rattle.pm_logic.specs.declared.formula.Formula.TheViews as view
 use Rattle.pm_logic.specs.declared.formula.TheConstants.{UNIT}
-use Rattle.pm_logic.specs.Scope.{TermScoped, PureScoped, Scoped, no_predicates}
 use Rattle.pm_logic.specs.Size.{term_depth, pure_depth, depth_of}
 use Rattle.pm_logic.proofs.Views.{view_sep, view_wand}
 use Rattle.pm_top.specs.declared.fault.Fault.{Fault}
 use Rattle.pm_top.specs.declared.fault.Fault.TheVariants.{Syntax, Deep}
-use Rattle.pm_top.specs.Spelling.{term_text, formula_text}
-use Rattle.pm_top.specs.Literals.{IsI64, TermLiteralsFit, PureLiteralsFit, LiteralsFit}
+use Rattle.pm_top.specs.Spelling.{term_text, pure_text, formula_text}
+use Rattle.pm_top.specs.Small.{IsI64, IsSmallTerm, IsSmallPure, IsSmallFormula}
 use Rattle.pm_top.specs.Reading.{◌>>=◌, is_word_byte, word, after, expect_at, skip_at, or_syntax, number_of, number_at, literal_of, positive, negative, term_at, truth_at, units_at, points_at, sides_of, two_at, formula_with, formula_at}
 use Rattle.pm_top.proofs.Numbers.{number_some}
 use Rattle.pm_top.proofs.Steps.{with_ok, more_ok, chosen_ok, chosen, some_is, or_syntax_ok, ok_is, both_true, le_true, lt_true}
@@ -104,13 +103,12 @@ literal_some (b ∷ w) z e =
 
 pub record TermFound (levels : ℕ) (bytes : List ℕ) (t : Term) (rest : List ℕ) : Type 0 where
   pub taken : Takes 0 bytes (term_text t rest) rest
-  pub scoped : TermScoped 0 t
-  pub literals : TermLiteralsFit t
+  pub small : IsSmallTerm t
   pub depth : term_depth t ≤ levels
 
 term_made : (levels : ℕ) (z : ℤ) (bytes rest : List ℕ) → Takes 0 bytes (signed_decimal z ++ rest) rest → IsI64 z → 0 < levels → TermFound levels bytes (Lit z) rest
-unfolding TermScoped TermLiteralsFit term_depth
-term_made levels z bytes rest t fits more = record { taken = t; scoped = tt; literals = fits; depth = omega arith }
+unfolding term_text IsSmallTerm term_depth
+term_made levels z bytes rest t fits more = record { taken = t; small = fits; depth = omega arith }
 
 pub term_found : (levels : ℕ) (bytes : List ℕ) (t : Term) (rest : List ℕ) → term_at levels bytes ≡ Ok (t, rest) → TermFound levels bytes t rest
 unfolding term_at
@@ -138,19 +136,17 @@ units_found bytes u rest e =
 
 pub record FormulaFound (levels : ℕ) (bytes : List ℕ) (f : Formula) (rest : List ℕ) : Type 0 where
   pub taken : Takes 0 bytes (formula_text f rest) rest
-  pub scoped : Scoped no_predicates 0 f
-  pub literals : LiteralsFit f
+  pub small : IsSmallFormula f
   pub depth : depth_of f ≤ levels
 
 truth_made : (levels : ℕ) (whole bytes a rest : List ℕ) → Takes 0 whole (codes "pure" ++ bytes) bytes → Takes 1 bytes (32 ∷ a) a → Takes 0 a (codes "T" ++ rest) rest → 0 < levels → FormulaFound (suc levels) whole (Fact pure.True) rest
-unfolding formula_text Scoped PureScoped LiteralsFit PureLiteralsFit depth_of pure_depth
+unfolding pure_text formula_text IsSmallFormula IsSmallPure depth_of pure_depth
 truth_made levels whole bytes a rest w s t more = record {
   taken = record {
     parts = w.parts ∙ ap (λ x. codes "pure" ++ x) (s.parts ∙ ap (λ x. 32 ∷ x) t.parts);
     shorter = omega (arith, w.shorter, s.shorter, t.shorter);
   };
-  scoped = tt;
-  literals = tt;
+  small = tt;
   depth = omega arith;
 }
 
@@ -164,14 +160,13 @@ truth_found levels bytes f rest is e =
     (truth_made levels bytes (after bytes) a b (word_found (codes "pure") bytes is) (skip_found 32 (after bytes) a ea) (expect_found (codes "T") a b eb) u.0)))
 
 points_made : (levels : ℕ) (l : Term) (u : ℕ) (v : Term) (whole bytes a b c d e rest : List ℕ) → Takes 0 whole (codes "pts" ++ bytes) bytes → Takes 1 bytes (32 ∷ a) a → TermFound levels a l b → Takes 1 b (32 ∷ c) c → UnitsFound c u d → Takes 1 d (32 ∷ e) e → TermFound levels e v rest → FormulaFound (suc levels) whole (Pts l u v) rest
-unfolding formula_text Scoped LiteralsFit depth_of
+unfolding formula_text IsSmallFormula depth_of
 points_made levels l u v whole bytes a b c d e rest w s loc t units r val = record {
   taken = record {
     parts = w.parts ∙ ap (λ x. codes "pts" ++ x) (s.parts ∙ ap (λ x. 32 ∷ x) (loc.taken.parts ∙ ap (term_text l) (t.parts ∙ ap (λ x. 32 ∷ x) (units.taken.parts ∙ ap (λ x. decimal u ++ x) (r.parts ∙ ap (λ x. 32 ∷ x) val.taken.parts)))));
     shorter = omega (arith, w.shorter, s.shorter, loc.taken.shorter, t.shorter, units.taken.shorter, r.shorter, val.taken.shorter);
   };
-  scoped = (loc.scoped, units.some, units.whole, val.scoped);
-  literals = (loc.literals, val.literals);
+  small = (loc.small, units.some, units.whole, val.small);
   depth = omega (arith, loc.depth, val.depth);
 }
 
@@ -195,8 +190,7 @@ FindsAll levels inner = (bytes : List ℕ) (f : Formula) (rest : List ℕ) → i
 
 record SidesFound (levels : ℕ) (bytes : List ℕ) (p q : Formula) (rest : List ℕ) : Type 0 where
   taken : Takes 0 bytes (32 ∷ formula_text p (32 ∷ formula_text q rest)) rest
-  scoped : Scoped no_predicates 0 p × Scoped no_predicates 0 q
-  literals : LiteralsFit p × LiteralsFit q
+  small : IsSmallFormula p × IsSmallFormula q
   depth : max (depth_of p) (depth_of q) ≤ levels
 
 sides_made : (levels : ℕ) (p q : Formula) (bytes a b c rest : List ℕ) → Takes 1 bytes (32 ∷ a) a → FormulaFound levels a p b → Takes 1 b (32 ∷ c) c → FormulaFound levels c q rest → SidesFound levels bytes p q rest
@@ -205,8 +199,7 @@ sides_made levels p q bytes a b c rest s left t right = record {
     parts = s.parts ∙ ap (λ x. 32 ∷ x) (left.taken.parts ∙ ap (formula_text p) (t.parts ∙ ap (λ x. 32 ∷ x) right.taken.parts));
     shorter = omega (arith, s.shorter, left.taken.shorter, t.shorter, right.taken.shorter);
   };
-  scoped = (left.scoped, right.scoped);
-  literals = (left.literals, right.literals);
+  small = (left.small, right.small);
   depth = omega (arith, left.depth, right.depth);
 }
 
@@ -223,17 +216,16 @@ sides_found levels inner bytes p q rest each h =
 -- f is spelled by the sign and its two sides, is fit where they are, and is one level deeper
 record IsOfTwo (sign : List ℕ) (f p q : Formula) : Type 0 where
   text : (rest : List ℕ) → formula_text f rest ≡ sign ++ (32 ∷ formula_text p (32 ∷ formula_text q rest))
-  scoped : Scoped no_predicates 0 p × Scoped no_predicates 0 q → Scoped no_predicates 0 f
-  literals : LiteralsFit p × LiteralsFit q → LiteralsFit f
+  small : IsSmallFormula p × IsSmallFormula q → IsSmallFormula f
   depth : depth_of f ≡ suc (max (depth_of p) (depth_of q))
 
 star_of_two : (p q : Formula) → IsOfTwo (codes "sep") (view.Sep p q) p q
-unfolding formula_text Scoped LiteralsFit depth_of
-star_of_two p q = subst (λ (f : Formula). IsOfTwo (codes "sep") f p q) (sym (view_sep p q)) (record { text = λ rest. refl; scoped = λ h. h; literals = λ h. h; depth = refl })
+unfolding formula_text IsSmallFormula depth_of
+star_of_two p q = subst (λ (f : Formula). IsOfTwo (codes "sep") f p q) (sym (view_sep p q)) (record { text = λ rest. refl; small = λ h. h; depth = refl })
 
 wand_of_two : (p q : Formula) → IsOfTwo (codes "wand") (view.Wand p q) p q
-unfolding formula_text Scoped LiteralsFit depth_of
-wand_of_two p q = subst (λ (f : Formula). IsOfTwo (codes "wand") f p q) (sym (view_wand p q)) (record { text = λ rest. refl; scoped = λ h. h; literals = λ h. h; depth = refl })
+unfolding formula_text IsSmallFormula depth_of
+wand_of_two p q = subst (λ (f : Formula). IsOfTwo (codes "wand") f p q) (sym (view_wand p q)) (record { text = λ rest. refl; small = λ h. h; depth = refl })
 
 two_made : (levels : ℕ) (sign : List ℕ) (f p q : Formula) (whole bytes rest : List ℕ) → IsOfTwo sign f p q → Takes 0 whole (sign ++ bytes) bytes → SidesFound levels bytes p q rest → FormulaFound (suc levels) whole f rest
 two_made levels sign f p q whole bytes rest two w s = record {
@@ -241,8 +233,7 @@ two_made levels sign f p q whole bytes rest two w s = record {
     parts = w.parts ∙ (ap (λ x. sign ++ x) s.taken.parts ∙ sym (two.text rest));
     shorter = omega (arith, w.shorter, s.taken.shorter);
   };
-  scoped = two.scoped s.scoped;
-  literals = two.literals s.literals;
+  small = two.small s.small;
   depth = omega (arith, two.depth, s.depth);
 }
 

@@ -103,7 +103,7 @@ record SidesFound (bytes : List ℕ) (e : Entail) (rest : List ℕ) : Type 0 whe
   right_fits : FormulaFits e.right
 
 fits_found : (bytes : List ℕ) (f : Formula) (rest : List ℕ) → FormulaFound 1000 bytes f rest → FormulaFits f
-fits_found bytes f rest h = record { scoped = h.scoped; literals = h.literals; levels = h.depth }
+fits_found bytes f rest h = record { small = h.small; levels = h.depth }
 
 sides_made : (p q : Formula) (bytes a b c rest : List ℕ) → Takes 1 bytes (32 ∷ a) a → FormulaFound 1000 a p b → Takes 1 b (32 ∷ c) c → FormulaFound 1000 c q rest → SidesFound bytes (record { vars = 0; left = p; right = q }) rest
 sides_made p q bytes a b c rest s left t right = record {

@@ -1,7 +1,7 @@
 -- What a run leaves at the sink.
 use Rattle.std.proofs.Common.{◌≡◌, ℕ, zero, suc, ◌<◌, List, [], ◌∷◌, length, lit<, refl, sym, ◌∙◌, ap, subst, Option, Some, None, inr}
 use Rattle.std.specs.Io.KnownBytes.{Appends}
-use Rattle.pm_top.specs.Taken.{TakesAll, HasMoreThan, AppendsFront}
+use Rattle.pm_io.specs.Taken.{TakesAll, HasMoreThan, AppendsFront}
 use Rattle.pm_top.specs.Truth.{SaysTrue}
 use Rattle.pm_top.specs.declared.command.Command.{Command}
 use Rattle.pm_top.specs.declared.command.Command.TheVariants.{Check, Run}

@@ -12,7 +12,6 @@ pub mod Levels
 pub mod NameSets
 pub mod Numbers
 pub mod Rules
-pub mod Sent
 pub mod Sound
 pub mod Steps
 pub mod Proving
@@ -34,3 +33,4 @@ pub mod Proved
 pub mod RunAnswers
 pub mod TextLength
 pub mod ScriptLength
+pub mod Spelled

@@ -3,8 +3,8 @@ use Rattle.std.proofs.Common.{◌≡◌, ℕ, ◌+◌, Bool, true, false, List, 
 use Rattle.std.specs.Prelude.{slice_get}
 use Rattle.pm_logic.specs.declared.formula.Formula.{Formula}
 use Rattle.pm_logic.specs.declared.formula.Formula.TheViews as view
-use Rattle.pm_logic.specs.declared.formula.Formula.TheVariants.{Pure as Fact, Pts}
-use Rattle.pm_logic.specs.Trees.{Sep, Wand}
+use Rattle.pm_logic.specs.declared.formula.Formula.TheVariants.{Pure as Fact, Pts, Call}
+use Rattle.pm_logic.specs.Trees.{Sep, Wand, And, Or, Imp, All, Ex, Later, Pers, Upd}
 use Rattle.pm_logic.proofs.Views.{view_wand}
 use Rattle.pm_goal.specs.declared.goal.Hyp.{Hyp}
 use Rattle.pm_goal.specs.declared.goal.Goal.{Goal}
@@ -18,12 +18,30 @@ abbrev left_part : Formula → Formula
 left_part (Fact a) = Fact a
 left_part (Sep a b) = Sep a b
 left_part (Wand a b) = a
+left_part (And a b) = And a b
+left_part (Or a b) = Or a b
+left_part (Imp a b) = Imp a b
+left_part (All a) = All a
+left_part (Ex a) = Ex a
+left_part (Later a) = Later a
+left_part (Pers a) = Pers a
+left_part (Upd a) = Upd a
+left_part (Call p ts) = Call p ts
 left_part (Pts l u v) = Pts l u v
 
 abbrev right_part : Formula → Formula
 right_part (Fact a) = Fact a
 right_part (Sep a b) = Sep a b
 right_part (Wand a b) = b
+right_part (And a b) = And a b
+right_part (Or a b) = Or a b
+right_part (Imp a b) = Imp a b
+right_part (All a) = All a
+right_part (Ex a) = Ex a
+right_part (Later a) = Later a
+right_part (Pers a) = Pers a
+right_part (Upd a) = Upd a
+right_part (Call p ts) = Call p ts
 right_part (Pts l u v) = Pts l u v
 
 wand_once : (f a b c d : Formula) → f ≡ view.Wand a b → f ≡ view.Wand c d → (a ≡ c) × (b ≡ d)

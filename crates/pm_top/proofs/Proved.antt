@@ -2,13 +2,12 @@
 use Rattle.std.proofs.Common.{◌≡◌, ℕ, zero, suc, ◌+◌, ◌*◌, ◌-◌, ◌<◌, ◌≤◌, ◌^◌, List, [], ◌∷◌, ◌++◌, length, refl, sym, ◌∙◌, ap, subst, arith, lit≤, ◌⊎◌, inl, inr, Option, Some, None}
 use Rattle.std.specs.Prelude.{ℤ, pos, neg_ℤ, IsTrue, map, option_map, slice_get}
 use Rattle.pm_logic.specs.declared.formula.Formula.{Formula}
-use Rattle.pm_logic.specs.Scope.{TermScoped, PureScoped, Scoped, no_predicates}
 use Rattle.pm_logic.specs.Trees as tree
 use Rattle.pm_logic.proofs.Views.{view_wand}
 use Rattle.pm_goal.specs.declared.goal.Hyp.{Hyp}
 use Rattle.pm_goal.specs.declared.goal.Goal.{Goal}
 use Rattle.pm_top.specs.Ranges.{is_name}
-use Rattle.pm_top.specs.Literals.{IsI64, TermLiteralsFit, PureLiteralsFit, LiteralsFit}
+use Rattle.pm_top.specs.Small.{IsI64, IsSmallTerm, IsSmallPure, IsSmallFormula}
 use Rattle.pm_top.specs.Spelling.{text_of}
 use Rattle.pm_top.specs.Connectives.{connectives}
 use Rattle.pm_top.specs.Sentence.{Sentence, Lemma}
@@ -79,48 +78,32 @@ operand_fits ts z (g.literal h) = h
 operand_fits ts z (g.negative {ds = ds} h) = neg_fits (number_of ds) h
 operand_fits ts z (g.IsOperand.group {ts = us} {z = w} h) = operand_fits us w h
 
-formula_scoped : (b : Binding) (ts : List Token) (f : Formula) → IsFormula b ts f → Scoped no_predicates 0 f
-unfolding Scoped TermScoped PureScoped
-formula_scoped b ts f (g.IsFormula.group {ts = us} {f = k} h) = formula_scoped g.Wands us k h
-formula_scoped b ts f g.truth = tt
-formula_scoped b ts f (g.points h k) = (tt, omega arith, omega arith, tt)
-formula_scoped b ts f (g.atom {ts = us} {f = k} h) = formula_scoped g.Atoms us k h
-formula_scoped b ts f (g.star {ls = ls} {rs = rs} {f = l} {g = r} h k) = (formula_scoped g.Atoms ls l h, formula_scoped g.Stars rs r k)
-formula_scoped b ts f (g.stars {ts = us} {f = k} h) = formula_scoped g.Stars us k h
-formula_scoped b ts f (g.wand {ls = ls} {rs = rs} {f = l} {g = r} h k) = (formula_scoped g.Stars ls l h, formula_scoped g.Wands rs r k)
+formula_small : (b : Binding) (ts : List Token) (f : Formula) → IsFormula b ts f → IsSmallFormula f
+unfolding IsSmallFormula IsSmallTerm IsSmallPure
+formula_small b ts f (g.IsFormula.group {ts = us} {f = k} h) = formula_small g.Wands us k h
+formula_small b ts f g.truth = tt
+formula_small b ts f (g.points {ls = ls} {vs = vs} {l = l} {v = v} h k) = (operand_fits ls l h, omega arith, omega arith, operand_fits vs v k)
+formula_small b ts f (g.atom {ts = us} {f = k} h) = formula_small g.Atoms us k h
+formula_small b ts f (g.star {ls = ls} {rs = rs} {f = l} {g = r} h k) = (formula_small g.Atoms ls l h, formula_small g.Stars rs r k)
+formula_small b ts f (g.stars {ts = us} {f = k} h) = formula_small g.Stars us k h
+formula_small b ts f (g.wand {ls = ls} {rs = rs} {f = l} {g = r} h k) = (formula_small g.Stars ls l h, formula_small g.Wands rs r k)
 
-formula_literals : (b : Binding) (ts : List Token) (f : Formula) → IsFormula b ts f → LiteralsFit f
-unfolding LiteralsFit TermLiteralsFit PureLiteralsFit
-formula_literals b ts f (g.IsFormula.group {ts = us} {f = k} h) = formula_literals g.Wands us k h
-formula_literals b ts f g.truth = tt
-formula_literals b ts f (g.points {ls = ls} {vs = vs} {l = l} {v = v} h k) = (operand_fits ls l h, operand_fits vs v k)
-formula_literals b ts f (g.atom {ts = us} {f = k} h) = formula_literals g.Atoms us k h
-formula_literals b ts f (g.star {ls = ls} {rs = rs} {f = l} {g = r} h k) = (formula_literals g.Atoms ls l h, formula_literals g.Stars rs r k)
-formula_literals b ts f (g.stars {ts = us} {f = k} h) = formula_literals g.Stars us k h
-formula_literals b ts f (g.wand {ls = ls} {rs = rs} {f = l} {g = r} h k) = (formula_literals g.Stars ls l h, formula_literals g.Wands rs r k)
+wand_small : (f k : Formula) → IsSmallFormula f → IsSmallFormula k → IsSmallFormula (tree.Wand f k)
+unfolding IsSmallFormula
+wand_small f k x y = (x, y)
 
-abbrev Fits : Formula → Type 0
-Fits f = Scoped no_predicates 0 f × LiteralsFit f
-
-formula_fits : (b : Binding) (ts : List Token) (f : Formula) → IsFormula b ts f → Fits f
-formula_fits b ts f h = (formula_scoped b ts f h, formula_literals b ts f h)
-
-wand_fits : (f k : Formula) → Fits f → Fits k → Fits (tree.Wand f k)
-unfolding Scoped LiteralsFit
-wand_fits f k x y = ((x.0, y.0), (x.1, y.1))
-
-statement_fits : (ts : List Token) (f : Formula) → IsStatement ts f → Fits f
-statement_fits ts f (g.alone h) = formula_fits g.Wands ts f h
-statement_fits ts f (g.IsStatement.entails {ls = ls} {rs = rs} {f = l} {g = r} h k) = wand_fits l r (formula_fits g.Wands ls l h) (formula_fits g.Wands rs r k)
+statement_small : (ts : List Token) (f : Formula) → IsStatement ts f → IsSmallFormula f
+statement_small ts f (g.alone h) = formula_small g.Wands ts f h
+statement_small ts f (g.IsStatement.entails {ls = ls} {rs = rs} {f = l} {g = r} h k) = wand_small l r (formula_small g.Wands ls l h) (formula_small g.Wands rs r k)
 
 abbrev LemmaFits : List ℕ → Formula → Type 0
-LemmaFits name f = IsTrue (is_name name) × Fits f
+LemmaFits name f = IsTrue (is_name name) × IsSmallFormula f
 
 sentence_fits : (ts : List Token) (s : Sentence) → IsSentence ts s → (name : List ℕ) (f : Formula) → s ≡ Lemma name f → LemmaFits name f
 sentence_fits ts s (g.lemma {n = n} {ts = us} {f = k} is h) name f e =
     let same_name : n ≡ name = cc in
     let same : k ≡ f = cc in
-    (subst (λ (x : List ℕ). IsTrue (is_name x)) same_name is, subst Fits same (statement_fits us k h))
+    (subst (λ (x : List ℕ). IsTrue (is_name x)) same_name is, subst IsSmallFormula same (statement_small us k h))
 sentence_fits ts s g.intros name f e = absurd cc
 sentence_fits ts s g.exact name f e = absurd cc
 sentence_fits ts s g.qed name f e = absurd cc
@@ -172,7 +155,7 @@ derives_proved bytes ss name goal place text small runs closed e =
     record {
       lines = proof_of name hs d goal.concl;
       spelled = record {
-        fit = proof_fits name hs d goal.concl there fits.0 (subst (Scoped no_predicates 0) (sym same) fits.1.0) (subst LiteralsFit (sym same) fits.1.1) (subst (λ (f : Formula). connectives f ≤ 900) (sym same) few);
+        fit = proof_fits name hs d goal.concl there fits.0 (subst IsSmallFormula (sym same) fits.1) (subst (λ (f : Formula). connectives f ≤ 900) (sym same) few);
         spelled = e;
       };
       follows = proof_derives name hs d goal.concl there;

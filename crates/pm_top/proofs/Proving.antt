@@ -4,13 +4,12 @@ use Rattle.std.specs.Prelude.{slice_get, option_map}
 use Rattle.std.specs.List.{AllByRecursion}
 use Rattle.std.proofs.lemmas.Option.{slice_get_within}
 use Rattle.pm_logic.specs.declared.formula.Term.{Term}
-use Rattle.pm_logic.specs.declared.formula.Term.TheVariants.{Lit}
+use Rattle.pm_logic.specs.declared.formula.Term.TheVariants.{Lit, Var}
 use Rattle.pm_logic.specs.declared.formula.Pure.{Pure}
 use Rattle.pm_logic.specs.declared.formula.Pure.TheVariants as pure
 use Rattle.pm_logic.specs.declared.formula.Formula.{Formula}
-use Rattle.pm_logic.specs.declared.formula.Formula.TheVariants.{Pure as Fact, Pts}
-use Rattle.pm_logic.specs.Trees.{Sep, Wand}
-use Rattle.pm_logic.specs.Scope.{PureScoped, Scoped, no_predicates}
+use Rattle.pm_logic.specs.declared.formula.Formula.TheVariants.{Pure as Fact, Pts, Call}
+use Rattle.pm_logic.specs.Trees.{add, sub, neg, scale, both, either, nope, Sep, Wand, And, Or, Imp, All, Ex, Later, Pers, Upd}
 use Rattle.pm_logic.specs.Size.{term_depth, pure_depth, depth_of}
 use Rattle.pm_logic.proofs.Views.{view_sep, view_wand}
 use Rattle.pm_rules.specs.declared.rules.Rule.{Rule}
@@ -18,7 +17,7 @@ use Rattle.pm_rules.specs.declared.rules.Rule.TheVariants.{Trans, SepComm, SepWe
 use Rattle.pm_rules.specs.declared.rules.Entail.{Entail}
 use Rattle.pm_rules.specs.Rules.{RuleOk}
 use Rattle.pm_top.specs.Line.{Line, Step, Qed}
-use Rattle.pm_top.specs.Literals.{PureLiteralsFit, LiteralsFit}
+use Rattle.pm_top.specs.Small.{IsSmallTerm, IsSmallPure, IsSmallFormula}
 use Rattle.pm_top.specs.Derivation.{steps, names, proof_line, is_used, StepOk, QedOk, IsStatement, IsDerivation}
 use Rattle.pm_top.specs.Ranges.{is_name, FormulaFits, StepFits, LineFits}
 use Rattle.pm_top.specs.Connectives.{connectives}
@@ -208,54 +207,71 @@ length_star : (hs : List Formula) → length hs ≤ connectives (star_of hs)
 length_star [] = omega arith
 length_star (h ∷ hs) = omega (arith, length_star hs, connectives_sep (star_of hs) h)
 
-pure_depth_is : (a : Pure) → pure_depth a ≡ 1
-unfolding pure_depth
-pure_depth_is pure.True = refl
+pure_depth_is : (a : Pure) → IsSmallPure a → pure_depth a ≡ 1
+unfolding pure_depth IsSmallPure
+pure_depth_is pure.True small = refl
+pure_depth_is pure.False small = absurd small
+pure_depth_is (pure.Eq s t) small = absurd small
+pure_depth_is (pure.Le s t) small = absurd small
+pure_depth_is (pure.Lt s t) small = absurd small
+pure_depth_is (both a b) small = absurd small
+pure_depth_is (either a b) small = absurd small
+pure_depth_is (nope a) small = absurd small
 
-term_depth_is : (t : Term) → term_depth t ≡ 1
-unfolding term_depth
-term_depth_is (Lit z) = refl
+term_depth_is : (t : Term) → IsSmallTerm t → term_depth t ≡ 1
+unfolding term_depth IsSmallTerm
+term_depth_is (Lit z) small = refl
+term_depth_is (Var i) small = absurd small
+term_depth_is (add s t) small = absurd small
+term_depth_is (sub s t) small = absurd small
+term_depth_is (neg t) small = absurd small
+term_depth_is (scale z t) small = absurd small
 
-pub depth_connectives : (f : Formula) → depth_of f ≤ connectives f + 2
-unfolding depth_of connectives
-depth_connectives (Fact a) = omega (arith, pure_depth_is a)
-depth_connectives (Sep p q) = omega (arith, depth_connectives p, depth_connectives q)
-depth_connectives (Wand p q) = omega (arith, depth_connectives p, depth_connectives q)
-depth_connectives (Pts l u v) = omega (arith, term_depth_is l, term_depth_is v)
+pub depth_connectives : (f : Formula) → IsSmallFormula f → depth_of f ≤ connectives f + 2
+unfolding depth_of connectives IsSmallFormula
+depth_connectives (Fact a) small = omega (arith, pure_depth_is a small)
+depth_connectives (Sep p q) small = omega (arith, depth_connectives p small.0, depth_connectives q small.1)
+depth_connectives (Wand p q) small = omega (arith, depth_connectives p small.0, depth_connectives q small.1)
+depth_connectives (And p q) small = absurd small
+depth_connectives (Or p q) small = absurd small
+depth_connectives (Imp p q) small = absurd small
+depth_connectives (All p) small = absurd small
+depth_connectives (Ex p) small = absurd small
+depth_connectives (Later p) small = absurd small
+depth_connectives (Pers p) small = absurd small
+depth_connectives (Upd p) small = absurd small
+depth_connectives (Call p ts) small = absurd small
+depth_connectives (Pts l u v) small = omega (arith, term_depth_is l small.0, term_depth_is v small.3)
 
--- ---- formulas that are scoped and whose literals fit
+-- ---- formulas of small texts
 
-record IsFine (f : Formula) : Type 0 where
-  scoped : Scoped no_predicates 0 f
-  literals : LiteralsFit f
+small_true : IsSmallFormula (Fact pure.True)
+unfolding IsSmallPure IsSmallFormula
+small_true = tt
 
-fine_true : IsFine (Fact pure.True)
-unfolding Scoped PureScoped LiteralsFit PureLiteralsFit
-fine_true = record { scoped = tt; literals = tt }
+small_sep : (p q : Formula) → IsSmallFormula p → IsSmallFormula q → IsSmallFormula (Sep p q)
+unfolding IsSmallFormula
+small_sep p q f g = (f, g)
 
-fine_sep : (p q : Formula) → IsFine p → IsFine q → IsFine (Sep p q)
-unfolding Scoped LiteralsFit
-fine_sep p q f g = record { scoped = (f.scoped, g.scoped); literals = (f.literals, g.literals) }
+sep_small : (p q : Formula) → IsSmallFormula (Sep p q) → IsSmallFormula p × IsSmallFormula q
+unfolding IsSmallFormula
+sep_small p q f = f
 
-sep_fine : (p q : Formula) → IsFine (Sep p q) → IsFine p × IsFine q
-unfolding Scoped LiteralsFit
-sep_fine p q f = (record { scoped = f.scoped.0; literals = f.literals.0 }, record { scoped = f.scoped.1; literals = f.literals.1 })
+wand_small : (p q : Formula) → IsSmallFormula (Wand p q) → IsSmallFormula p × IsSmallFormula q
+unfolding IsSmallFormula
+wand_small p q f = f
 
-wand_fine : (p q : Formula) → IsFine (Wand p q) → IsFine p × IsFine q
-unfolding Scoped LiteralsFit
-wand_fine p q f = (record { scoped = f.scoped.0; literals = f.literals.0 }, record { scoped = f.scoped.1; literals = f.literals.1 })
-
-wands_fine : (hs : List Formula) (c : Formula) → IsFine (wands hs c) → IsFine (star_of hs) × IsFine c
-wands_fine [] c f = (fine_true, f)
-wands_fine (h ∷ hs) c f =
-    let inner = wands_fine hs (Wand h c) f in
-    let both = wand_fine h c inner.1 in
-    (fine_sep (star_of hs) h inner.0 both.0, both.1)
+wands_small : (hs : List Formula) (c : Formula) → IsSmallFormula (wands hs c) → IsSmallFormula (star_of hs) × IsSmallFormula c
+wands_small [] c f = (small_true, f)
+wands_small (h ∷ hs) c f =
+    let inner = wands_small hs (Wand h c) f in
+    let both = wand_small h c inner.1 in
+    (small_sep (star_of hs) h inner.0 both.0, both.1)
 
 -- ---- lines that fit
 
-formula_fits : (f : Formula) → IsFine f → connectives f ≤ 900 → FormulaFits f
-formula_fits f fine le = record { scoped = fine.scoped; literals = fine.literals; levels = omega (arith, depth_connectives f) }
+formula_fits : (f : Formula) → IsSmallFormula f → connectives f ≤ 900 → FormulaFits f
+formula_fits f small le = record { small = small; levels = omega (arith, depth_connectives f small) }
 
 small_cite : (n : ℕ) → n ≤ 5000 → n < 2 ^ 64
 small_cite n le = omega arith
@@ -277,12 +293,12 @@ wand_fits : (n : ℕ) (p q : Formula) → n ≤ 5000 → FormulaFits p → Formu
 wand_fits n p q le f g = record { first_stands = refl; second_stands = refl; first_fits = small_cite n le; second_fits = tt; closed = refl; left_fits = f; right_fits = g }
 
 -- the star of one hypothesis more, and what its parts are
-swapped_fits : (p q : Formula) → IsFine (Sep p q) → connectives (Sep p q) ≤ 900 → FormulaFits (Sep q p)
+swapped_fits : (p q : Formula) → IsSmallFormula (Sep p q) → connectives (Sep p q) ≤ 900 → FormulaFits (Sep q p)
 swapped_fits p q f le =
-    let both = sep_fine p q f in
-    formula_fits (Sep q p) (fine_sep q p both.1 both.0) (omega (arith, connectives_sep p q, connectives_sep q p))
+    let both = sep_small p q f in
+    formula_fits (Sep q p) (small_sep q p both.1 both.0) (omega (arith, connectives_sep p q, connectives_sep q p))
 
-closing_fits : (hs : List Formula) (d : ℕ) (c : Formula) → d ≤ 1000 → IsFine (star_of hs) → connectives (star_of hs) ≤ 900 → FormulaFits c → AllByRecursion LineFits (closing hs d c)
+closing_fits : (hs : List Formula) (d : ℕ) (c : Formula) → d ≤ 1000 → IsSmallFormula (star_of hs) → connectives (star_of hs) ≤ 900 → FormulaFits c → AllByRecursion LineFits (closing hs d c)
 closing_fits [] d c small fine le fits = tt
 closing_fits (h ∷ hs) zero c small fine le fits =
     let star = formula_fits (Sep (star_of hs) h) fine le in
@@ -290,22 +306,21 @@ closing_fits (h ∷ hs) zero c small fine le fits =
     (comm_fits (Sep (star_of hs) h) (Sep h (star_of hs)) star other, (weaken_fits (Sep h (star_of hs)) c other fits, (trans_fits 1 2 (Sep (star_of hs) h) c (omega arith) (omega arith) star fits, tt)))
 closing_fits (h ∷ hs) (suc d) c small fine le fits =
     let star = formula_fits (Sep (star_of hs) h) fine le in
-    let both = sep_fine (star_of hs) h fine in
+    let both = sep_small (star_of hs) h fine in
     let less : connectives (star_of hs) ≤ 900 = omega (arith, connectives_sep (star_of hs) h) in
     all_joined (closing hs d c) (Step SepWeaken None None (entails (Sep (star_of hs) h) (star_of hs)) ∷ Step Trans (Some (2 * d + 4)) (Some (2 * d + 3)) (entails (Sep (star_of hs) h) c) ∷ []) (closing_fits hs d c (omega arith) both.0 less fits) (weaken_fits (Sep (star_of hs) h) (star_of hs) star (formula_fits (star_of hs) both.0 less), (trans_fits (2 * d + 4) (2 * d + 3) (Sep (star_of hs) h) c (omega arith) (omega arith) star fits, tt))
 
-currying_fits : (n : ℕ) (hs : List Formula) (c : Formula) → n + length hs ≤ 5000 → IsFine (wands hs c) → connectives (wands hs c) ≤ 900 → AllByRecursion LineFits (currying n hs c)
+currying_fits : (n : ℕ) (hs : List Formula) (c : Formula) → n + length hs ≤ 5000 → IsSmallFormula (wands hs c) → connectives (wands hs c) ≤ 900 → AllByRecursion LineFits (currying n hs c)
 currying_fits n [] c small fine le = tt
 currying_fits n (h ∷ hs) c small fine le =
-    let both = wands_fine hs (Wand h c) fine in
+    let both = wands_small hs (Wand h c) fine in
     let sum = connectives_star hs (Wand h c) in
     (wand_fits n (star_of hs) (Wand h c) (omega arith) (formula_fits (star_of hs) both.0 (omega (arith, sum))) (formula_fits (Wand h c) both.1 (omega (arith, sum))), currying_fits (n + 1) hs (Wand h c) (omega arith) fine le)
 
 -- each line fits, where the name is one and the statement is closed, fits and has at most 900 connectives
-pub proof_fits : (name : List ℕ) (hs : List Formula) (d : ℕ) (c : Formula) → slice_get hs d ≡ Some c → IsTrue (is_name name) → Scoped no_predicates 0 (wands hs c) → LiteralsFit (wands hs c) → connectives (wands hs c) ≤ 900 → AllByRecursion LineFits (proof_of name hs d c)
-proof_fits name hs d c at named scoped literals le =
-    let fine : IsFine (wands hs c) = record { scoped = scoped; literals = literals } in
-    let both = wands_fine hs c fine in
+pub proof_fits : (name : List ℕ) (hs : List Formula) (d : ℕ) (c : Formula) → slice_get hs d ≡ Some c → IsTrue (is_name name) → IsSmallFormula (wands hs c) → connectives (wands hs c) ≤ 900 → AllByRecursion LineFits (proof_of name hs d c)
+proof_fits name hs d c at named fine le =
+    let both = wands_small hs c fine in
     let sum = connectives_star hs c in
     let most : length hs ≤ connectives (star_of hs) = length_star hs in
     let lt : d < length hs = slice_get_within hs d c at in

@@ -11,6 +11,7 @@ use Rattle.pm_model.specs.Forcing.{bodies}
 use Rattle.pm_model.specs.Entailment.{IsTrueEntailment}
 use Rattle.pm_model.proofs.Joins.{joins_comm, extends_left, extends_refl}
 use Rattle.pm_model.proofs.Steps.{forced_monotone}
+use Rattle.pm_model.proofs.Agree.{bodies_monotone}
 use Rattle.pm_rules.specs.declared.rules.Entail.{Entail}
 use Rattle.pm_rules.specs.declared.rules.Rule.{Rule}
 use Rattle.pm_rules.specs.declared.rules.Rule.TheVariants.{Refl, Trans, True, SepMono, SepComm, SepWeaken, WandI, WandE}
@@ -45,13 +46,13 @@ sep_weaken_true : (preds : Preds) (k : ℕ) (x y : Formula) → IsTrueEntailment
 sep_weaken_true preds k x y = record {
   holds = λ env len n r h.
       let (r1, r2, j, hx, hy) = h in
-      forced_monotone (bodies preds.list) (length preds.list) x env n n (length preds.list) r1 r (le_refl n) (extends_left j) hx;
+      forced_monotone (bodies preds.list) (length preds.list) (bodies_monotone preds.list) x env n n (length preds.list) r1 r (le_refl n) (extends_left j) hx;
 }
 
 wand_i_true : (preds : Preds) (k : ℕ) (x y z : Formula) → IsTrueEntailment preds k (Sep x y) z → IsTrueEntailment preds k x (Wand y z)
 wand_i_true preds k x y z f = record {
   holds = λ env len n r h m le s c j hy.
-      let below = forced_monotone (bodies preds.list) (length preds.list) x env n m (length preds.list) r r le (extends_refl r) h in
+      let below = forced_monotone (bodies preds.list) (length preds.list) (bodies_monotone preds.list) x env n m (length preds.list) r r le (extends_refl r) h in
       f.holds env len m c (r, s, j, below, hy);
 }
 

@@ -13,7 +13,7 @@ use Rattle.pm_top.specs.Script.{IsOperand, Binding, IsFormula, IsStatement, IsSe
 use Rattle.pm_top.specs.Script as g
 use Rattle.pm_top.specs.Sentence.{Sentence, Lemma}
 use Rattle.pm_top.specs.Runs.{intro_count}
-use Rattle.pm_top.specs.Spelling.{formula_text}
+use Rattle.pm_top.specs.Spelling.{term_text, formula_text}
 use Rattle.pm_top.specs.Tokens.{Token, sign, Place, place, tokens_at, number_of}
 use Rattle.pm_top.proofs.ScriptCut.{number_small}
 use Rattle.pm_top.proofs.ScriptLaws.{bytes_of, bytes-append, tokens-append, tokens_bytes, operand_bytes}
@@ -36,7 +36,7 @@ length_wand : (p q : Formula) → text_length (tree.Wand p q) ≡ 6 + text_lengt
 length_wand p q = omega (arith, ap length (text_wand p q), two_parts (codes "wand ") (formula_text p []) (formula_text q []))
 
 length_points : (l v : ℤ) → text_length (Pts (Lit l) UNIT (Lit v)) ≤ 12 + length (signed_decimal l) + length (signed_decimal v)
-unfolding formula_text
+unfolding term_text formula_text
 length_points l v =
     let units = length-decimal-le 6 UNIT (omega arith) (omega arith) (omega arith) in
     let value = length-append (signed_decimal v) [] in

@@ -14,8 +14,8 @@ use Rattle.pm_rules.specs.declared.rules.Rule.{Rule}
 use Rattle.pm_rules.specs.declared.rules.Rule.TheVariants.{Refl, Trans, True, SepMono, SepComm, SepWeaken, WandI, WandE}
 use Rattle.pm_rules.specs.declared.rules.Entail.{Entail}
 use Rattle.pm_top.specs.Line.{Line, Step, Qed}
-use Rattle.pm_top.specs.Spelling.{formula_text, rule_name, cite_text, line_text, lines_text, text_of}
-use Rattle.pm_top.proofs.Writing.{formula_before}
+use Rattle.pm_top.specs.Spelling.{pure_text, formula_text, rule_name, cite_text, line_text, lines_text, text_of}
+use Rattle.pm_top.proofs.Spelled.{formula_before}
 use Rattle.pm_top.specs.Proving.{star_of, wands, entails, closing, currying, proof_of}
 
 -- ---- formulas
@@ -28,7 +28,7 @@ length_formula : (f : Formula) (rest : List ℕ) → length (formula_text f rest
 length_formula f rest = ap length (formula_before f rest) ∙ length-append (formula_text f []) rest
 
 pub text_len_truth : text_len (Fact pure.True) ≡ 6
-unfolding formula_text
+unfolding pure_text formula_text
 text_len_truth = refl
 
 pub text_len_sep : (p q : Formula) → text_len (Sep p q) ≡ text_len p + text_len q + 5

@@ -13,37 +13,21 @@ use Rattle.pm_logic.proofs.Views.{view_sep, view_wand}
 use Rattle.pm_rules.specs.declared.rules.Rule.TheVariants.{Trans, SepComm, SepWeaken, WandI}
 use Rattle.pm_goal.specs.declared.goal.Hyp.{Hyp}
 use Rattle.pm_top.specs.Line.{Line, Step, Qed}
-use Rattle.pm_top.specs.Spelling.{formula_text, rule_name, cite_text, next_number, line_text, lines_text, text_of}
+use Rattle.pm_top.specs.Spelling.{pure_text, formula_text, rule_name, cite_text, next_number, line_text, lines_text, text_of}
 use Rattle.pm_top.specs.Proving.{star_of, wands, entails, closing, currying, proof_of}
 use Rattle.pm_top.specs.Written.{onto, newest_first}
 use Rattle.pm_top.proofs.Judging.{number_after}
+use Rattle.pm_top.proofs.Spelled.{four, formula_before, take_all}
 
 -- ---- pieces one after the other
-
-pub four : (t₀ t₁ t₂ t₃ t₄ a b c d total : List ℕ) (r : Result (Unit {0}) Memory) → t₁ ≡ t₀ ++ a → t₂ ≡ t₁ ++ b → t₃ ≡ t₂ ++ c → OnOk r (t₄ ≡ t₃ ++ d) → total ≡ a ++ (b ++ (c ++ d)) → OnOk r (t₄ ≡ t₀ ++ total)
-four t₀ t₁ t₂ t₃ t₄ a b c d total (Ok u) h₁ h₂ h₃ h₄ whole = h₄ ∙ rw (h₃, h₂, h₁, whole) (simp append_assoc)
-four t₀ t₁ t₂ t₃ t₄ a b c d total (Err e) h₁ h₂ h₃ h₄ whole = tt
 
 pub made : (t₀ t₁ t₂ t₃ t₄ a b c d total : List ℕ) → t₀ ≡ [] → t₁ ≡ t₀ ++ a → t₂ ≡ t₁ ++ b → t₃ ≡ t₂ ++ c → t₄ ≡ t₃ ++ d → total ≡ a ++ (b ++ (c ++ d)) → t₄ ≡ total
 made t₀ t₁ t₂ t₃ t₄ a b c d total h₀ h₁ h₂ h₃ h₄ whole = h₄ ∙ rw (h₃, h₂, h₁, h₀, whole) (simp append_assoc)
 
 -- ---- formulas
 
-two_before : (word : List ℕ) (p q : Formula) (rest : List ℕ) → ((r : List ℕ) → formula_text p r ≡ formula_text p [] ++ r) → ((r : List ℕ) → formula_text q r ≡ formula_text q [] ++ r)
-    → word ++ formula_text p (32 ∷ formula_text q rest) ≡ (word ++ formula_text p (32 ∷ formula_text q [])) ++ rest
-two_before word p q rest before_p before_q =
-    ap (λ t. word ++ t) (before_p (32 ∷ formula_text q rest) ∙ ap (λ t. formula_text p [] ++ (32 ∷ t)) (before_q rest) ∙ sym (append_assoc (formula_text p []) (32 ∷ formula_text q []) rest) ∙ ap (λ t. t ++ rest) (sym (before_p (32 ∷ formula_text q []))))
-    ∙ sym (append_assoc word (formula_text p (32 ∷ formula_text q [])) rest)
-
-pub formula_before : (f : Formula) (rest : List ℕ) → formula_text f rest ≡ formula_text f [] ++ rest
-unfolding formula_text
-formula_before (Fact pure.True) rest = refl
-formula_before (Sep p q) rest = two_before (codes "sep ") p q rest (λ r. formula_before p r) (λ r. formula_before q r)
-formula_before (Wand p q) rest = two_before (codes "wand ") p q rest (λ r. formula_before p r) (λ r. formula_before q r)
-formula_before (Pts (Lit z) u (Lit v)) rest = simp (append_assoc, append-nil)
-
 pub text_truth : formula_text (Fact pure.True) [] ≡ codes "pure T"
-unfolding formula_text
+unfolding pure_text formula_text
 text_truth = refl
 
 pub text_sep : (p q : Formula) → formula_text (Sep p q) [] ≡ codes "sep " ++ (formula_text p [] ++ (codes " " ++ formula_text q []))
@@ -53,12 +37,6 @@ text_sep p q = ap (λ t. codes "sep " ++ t) (formula_before p (32 ∷ formula_te
 pub text_wand : (p q : Formula) → formula_text (Wand p q) [] ≡ codes "wand " ++ (formula_text p [] ++ (codes " " ++ formula_text q []))
 unfolding formula_text
 text_wand p q = ap (λ t. codes "wand " ++ t) (formula_before p (32 ∷ formula_text q []))
-
-pub sep_text : (f p q p' q' : Formula) → f ≡ view.Sep p q → p' ≡ p → q' ≡ q → formula_text f [] ≡ codes "sep " ++ (formula_text p' [] ++ (codes " " ++ formula_text q' []))
-sep_text f p q p' q' e ep eq = rw (e, ep, eq) (ap (λ f. formula_text f []) (view_sep p q) ∙ text_sep p q)
-
-pub wand_text : (f p q p' q' : Formula) → f ≡ view.Wand p q → p' ≡ p → q' ≡ q → formula_text f [] ≡ codes "wand " ++ (formula_text p' [] ++ (codes " " ++ formula_text q' []))
-wand_text f p q p' q' e ep eq = rw (e, ep, eq) (ap (λ f. formula_text f []) (view_wand p q) ∙ text_wand p q)
 
 -- ---- hypotheses
 
@@ -81,12 +59,6 @@ wands_onto (h ∷ hs) older c = wands_onto hs (h.formula ∷ older) c ∙ sym (a
 
 wands_oldest : (h : Hyp) (hs : List Hyp) (c : Formula) → wands (newest_first (h ∷ hs)) c ≡ Wand h.formula (wands (newest_first hs) c)
 wands_oldest h hs c = wands_onto hs (h.formula ∷ []) c
-
-take_all : {A : Type 0} (xs : List A) (n : ℕ) → length xs ≤ n → take n xs ≡ xs
-take_all [] zero le = refl
-take_all [] (suc n) le = refl
-take_all (x ∷ xs) zero le = absurd (omega arith)
-take_all (x ∷ xs) (suc n) le = ap (λ ys. x ∷ ys) (take_all xs n (omega arith))
 
 newest_is : (hs : List Hyp) (h : Hyp) → 1 ≤ length hs → h ≡ get_or hs (length hs - 1) h → newest_first hs ≡ h.formula ∷ newest_first (take (length hs - 1) hs)
 newest_is hs h some at =

@@ -1,7 +1,7 @@
 -- What a run leaves: at the sink by its status, and of the source.
 use Rattle.std.specs.Prelude.{◌≡◌, ◌⊎◌, ℕ, List, [], length, Option, Some, None, IsSome, ⊤}
 use Rattle.std.specs.Io.KnownBytes.{Appends, Keeps}
-use Rattle.pm_top.specs.Taken.{AppendsFront}
+use Rattle.pm_io.specs.Taken.{AppendsFront}
 use Rattle.pm_top.specs.declared.command.Command.{Command}
 use Rattle.pm_top.specs.declared.command.Command.TheVariants.{Run}
 use Rattle.pm_top.specs.declared.status.Status.{Status}

@@ -1,6 +1,6 @@
 pub mod Line
 pub mod Spelling
-pub mod Literals
+pub mod Small
 pub mod Ranges
 pub mod Reading
 pub mod ReadLine
@@ -11,9 +11,6 @@ pub mod Kept
 pub mod Verdicts
 pub mod Answers
 pub mod Leaves
-pub mod Causes
-pub mod Taken
-pub mod Devices
 pub mod Sentence
 pub mod Tokens
 pub mod Script

@@ -3,13 +3,12 @@ use Rattle.std.specs.Prelude.{◌≡◌, ℕ, ◌<◌, ◌≤◌, ◌^◌, Bool,
 use Rattle.std.specs.List.{list_all, AllByRecursion}
 use Rattle.std.specs.Str.{bytes_eq}
 use Rattle.pm_logic.specs.declared.formula.Formula.{Formula}
-use Rattle.pm_logic.specs.Scope.{Scoped, no_predicates}
 use Rattle.pm_logic.specs.Size.{depth_of}
 use Rattle.pm_rules.specs.declared.rules.Rule.{Rule}
 use Rattle.pm_rules.specs.declared.rules.Entail.{Entail}
 use Rattle.pm_rules.specs.Rules.{premise_count}
 use Rattle.pm_top.specs.Line.{Line, Step, Qed}
-use Rattle.pm_top.specs.Literals.{LiteralsFit}
+use Rattle.pm_top.specs.Small.{IsSmallFormula}
 use Rattle.pm_top.specs.Spelling.{text_of}
 
 -- ---- names
@@ -30,10 +29,9 @@ is_name (b ∷ bs) = is_letter b && list_all is_name_byte bs && not (is_reserved
 
 -- ---- formulas and citations
 
--- closed, with units from 1 to a whole and integers that are i64, and at most 1000 deep
+-- small, and at most 1000 deep
 pub record FormulaFits (f : Formula) : Type 0 where
-  pub scoped : Scoped no_predicates 0 f
-  pub literals : LiteralsFit f
+  pub small : IsSmallFormula f
   pub levels : depth_of f ≤ 1000
 
 abbrev pub CiteFits : Option ℕ → Type 0

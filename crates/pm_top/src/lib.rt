@@ -9,7 +9,6 @@ mod formulas;
 mod judge;
 mod laws;
 mod lines;
-mod memory;
 mod program;
 mod row;
 mod running;
@@ -17,24 +16,20 @@ mod script;
 mod script_fault;
 mod script_formula;
 mod script_signs;
-mod sink;
-mod source;
-mod standard;
 mod status;
+mod texts;
 mod tokens;
 mod words;
 mod writer;
 
 pub use laws::{derivations_are_true, rules_are_true};
-pub use memory::{MemSink, MemSource, SureSource};
+pub use pm_io::{
+    Failed, MemSink, MemSource, SendFault, Sink, Source, StdSink, StdSource, SureSource, TakeFault,
+    read_all, write_all,
+};
 pub use program::top;
-pub use sink::{SendFault, Sink, write_all};
-pub use source::{Failed, Source, TakeFault, read_all};
-pub use standard::{StdSink, StdSource};
 pub use status::Status;
 
-#[cfg(test)]
-mod device_tests;
 #[cfg(test)]
 mod run_tests;
 #[cfg(test)]

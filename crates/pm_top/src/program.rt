@@ -2,17 +2,16 @@
 
 ghost use Rattle.std.specs.Prelude.{◌≡◌, Some, None};
 ghost use Rattle.std.specs.Io.KnownBytes.{Appends};
-ghost use Rattle.pm_top.specs.Causes.{Faulted};
-ghost use Rattle.pm_top.specs.Taken.{AppendsFront};
+ghost use Rattle.pm_io.specs.Causes.{Faulted};
+ghost use Rattle.pm_io.specs.Taken.{AppendsFront};
 ghost use Rattle.pm_top.specs.Answers.{command_of, IfTold};
 ghost use Rattle.pm_top.specs.Truth.{SaysTrue};
 ghost use Rattle.pm_top.specs.Leaves.{IsAnswer, Leaves, IsDefined, IsReadToEnd};
 
 use crate::answer::answer;
 use crate::command::{Command, command_of};
-use crate::sink::{SendFault, Sink, write_all};
-use crate::source::{Source, TakeFault, read_all};
 use crate::status::Status;
+use pm_io::{SendFault, Sink, Source, TakeFault, read_all, write_all};
 use std::alloc::Global;
 
 /// Writes the text of an answer.

@@ -106,17 +106,17 @@ fn introduce(alloc: Global, goal: Goal, name: &[u8]) -> Result<Goal, Memory>
         mut spats,
         concl,
     } = goal;
-    match concl {
+    match &concl {
         Formula::Wand(a, b) => {
-            let formula = a.into_inner();
+            let formula = copy(alloc, a.get())?;
+            let rest = copy(alloc, b.get())?;
             spats.push(Hyp { name, formula })?;
-            let concl = b.into_inner();
             Ok(Goal {
                 vars,
                 pures,
                 ints,
                 spats,
-                concl,
+                concl: rest,
             })
         }
         _ => unreachable!(),

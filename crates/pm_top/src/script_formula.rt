@@ -181,13 +181,7 @@ fn opens(tokens: &[Placed]) -> bool
     let [first, ..] = tokens else {
         return false;
     };
-    if !is_sign(Sign::Open, first.token) {
-        return false;
-    }
-    match points(tokens) {
-        Some(_) => false,
-        None => true,
-    }
+    is_sign(Sign::Open, first.token) && points(tokens).is_none()
 }
 
 /// How many parentheses open formulas before any other token.

@@ -4,13 +4,16 @@ use pm_logic::{Bytes, Formula, Memory, Term, UNIT};
 use std::alloc::Global;
 use std::test::Fail;
 
+/// Whether a term is this integer.
+fn is_literal(term: &Term, z: i64) -> bool {
+    matches!(term, Term::Lit(x) if *x == z)
+}
+
 /// Whether a formula is a whole points-to of these integers.
 fn is_points(formula: &Formula, from: i64, to: i64) -> bool {
     match formula {
         Formula::Pts { loc, units, val } => {
-            let Term::Lit(loc) = loc;
-            let Term::Lit(val) = val;
-            *loc == from && *val == to && *units == UNIT
+            is_literal(loc, from) && is_literal(val, to) && *units == UNIT
         }
         _ => false,
     }

@@ -1,5 +1,5 @@
 use super::*;
-use pm_logic::{Formula, List, Memory, Name, Preds, Term, copy_name, same, scoped};
+use pm_logic::Memory;
 use std::alloc::Global;
 use std::process::Abort;
 use std::test::Fail;
@@ -254,39 +254,4 @@ fn other_words(rt: HostRuntime) -> Result<(), Fail> {
         runs(&rt, rt.alloc(), &words, (&[1], &[]), Status::Usage, usage)?;
     }
     Ok(())
-}
-
-#[test]
-fn names_and_lists(rt: HostRuntime) -> Result<(), Fail> {
-    let name = Name::new(rt.alloc(), "swap")?;
-    let copy = copy_name(rt.alloc(), &name)?;
-    assert_eq!(rt; copy.bytes(), b"swap".as_slice());
-    let mut list = List::new(rt.alloc());
-    list.push(7u8)?;
-    assert_eq!(rt; list.as_slice(), [7].as_slice());
-    Ok(())
-}
-
-fn points(units: u32) -> Formula {
-    Formula::Pts {
-        loc: Term::Lit(1),
-        units,
-        val: Term::Lit(-2),
-    }
-}
-
-fn is_scoped(alloc: Global, units: u32) -> bool {
-    let preds = Preds {
-        list: List::new(alloc),
-    };
-    scoped(&preds, 0, &points(units))
-}
-
-#[test]
-fn scope_and_equality(rt: HostRuntime) {
-    for (units, want) in [(0, false), (1, true), (720_720, true), (720_721, false)] {
-        assert_eq!(rt; is_scoped(rt.alloc(), units), want, "at {units}");
-    }
-    assert!(rt; same(&points(5), &points(5)));
-    assert!(rt; !same(&points(5), &points(6)));
 }

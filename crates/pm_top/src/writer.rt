@@ -10,50 +10,10 @@ ghost use Rattle.pm_top.specs.Spelling.{formula_text, lines_text, text_of};
 ghost use Rattle.pm_top.specs.Proving.{star_of, wands, entails, closing, currying, proof_of};
 ghost use Rattle.pm_top.specs.Written.{newest_first};
 
+use crate::texts::{put, put_formula};
 use pm_goal::Hyp;
-use pm_logic::{Bytes, Formula, Memory, Pure, Term};
+use pm_logic::{Bytes, Formula, Memory};
 use std::alloc::Global;
-
-fn put(out: &mut Bytes, text: &str) -> Result<(), Memory>
-    ensures { OnOk result (out.new ≡ out.old ++ text.now) }
-{
-    out.extend(text.as_bytes())
-}
-
-/// A points-to of literals.
-#[tactic(auto, unfolding(crate::specs::Spelling::formula_text))]
-fn points(alloc: Global, loc: &Term, units: u32, val: &Term) -> Result<String, Memory>
-    ensures { IfOk result (λ text. string_bytes text ≡ formula_text (Formula.Pts loc.now units val.now) []) }
-{
-    match (loc, val) {
-        (Term::Lit(l), Term::Lit(v)) => Ok(format!(in alloc; "pts {l} {units} {v}")?),
-    }
-}
-
-#[tactic(auto, using(crate::proofs::Writing::text_truth))]
-fn put_formula(alloc: Global, out: &mut Bytes, f: &Formula) -> Result<(), Memory>
-    ensures { OnOk result (out.new ≡ out.old ++ formula_text f.now []) }
-{
-    match f {
-        Formula::Pure(Pure::True) => put(out, "pure T"),
-        Formula::Sep(p, q) => {
-            put(out, "sep ")?;
-            put_formula(alloc, out, p.get())?;
-            put(out, " ")?;
-            put_formula(alloc, out, q.get())
-        }
-        Formula::Wand(p, q) => {
-            put(out, "wand ")?;
-            put_formula(alloc, out, p.get())?;
-            put(out, " ")?;
-            put_formula(alloc, out, q.get())
-        }
-        Formula::Pts { loc, units, val } => {
-            let text = points(alloc, loc, *units, val)?;
-            put(out, text.as_str())
-        }
-    }
-}
 
 /// The star of the hypotheses.
 fn put_star(alloc: Global, out: &mut Bytes, hyps: &[Hyp]) -> Result<(), Memory>

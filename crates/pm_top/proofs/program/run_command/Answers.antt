@@ -1,6 +1,6 @@
 use Rattle.std.proofs.Common.{ap, Err, Some}
 use Rattle.pm_top.specs.Answers.{too_long_line}
-use Rattle.pm_top.specs.Taken.{HasMoreThan}
+use Rattle.pm_io.specs.Taken.{HasMoreThan}
 use Rattle.pm_top.specs.declared.status.Status.TheVariants as status
 use Rattle.pm_top.proofs.Leaving.{leaves, defines_long}
 use Rattle.pm_top.proofs.program.run_command.Goals as goal

@@ -1,4 +1,5 @@
-use Rattle.pm_top.proofs.Writing.{four, star_none, star_text}
+use Rattle.pm_top.proofs.Spelled.{four}
+use Rattle.pm_top.proofs.Writing.{star_none, star_text}
 use Rattle.pm_top.proofs.writer.+put_star.Goals as goal
 
 pub returns-in-empty : goal.returns-in-empty

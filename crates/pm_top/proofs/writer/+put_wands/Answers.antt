@@ -1,4 +1,5 @@
-use Rattle.pm_top.proofs.Writing.{four, wands_text}
+use Rattle.pm_top.proofs.Spelled.{four}
+use Rattle.pm_top.proofs.Writing.{wands_text}
 use Rattle.pm_top.proofs.writer.+put_wands.Goals as goal
 
 pub returns-in_ok-put-in-len1-up-2 : goal.returns-in_ok-put-in-len1-up-2

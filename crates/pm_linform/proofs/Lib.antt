@@ -1,0 +1,4 @@
+pub mod Entries
+pub mod Products
+pub mod Dots
+pub mod Bounds
