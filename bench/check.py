@@ -16,8 +16,8 @@ import time
 TOP = os.path.dirname(os.path.dirname(os.path.abspath(__file__)))
 PROGRAM = os.path.join(TOP, "crates", "mosel", "out", "mosel")
 OUT = os.path.join(TOP, "bench", "out")
-HEADER = b"mosel-derivation 1\narities\n"
-LIMIT = 16_777_216
+HEADER = b"mosel-derivation 1\narities 1\npred p pure eq v0 0\n"
+SIZES = (1_000_000, 4_000_000, 16_000_000, 64_000_000)
 
 
 def swaps():
@@ -52,6 +52,16 @@ def statements():
                     yield b"qed %s 1\n" % name.encode()
 
 
+def rules():
+    """Each of the rules in turn; bench/rules.txt has them, with {n} for its own line n."""
+    with open(os.path.join(TOP, "bench", "rules.txt")) as source:
+        block = source.read().splitlines()
+    for before in itertools.count(0, len(block)):
+        cited = [before + n for n in range(len(block) + 1)]
+        for n, line in enumerate(block, 1):
+            yield b"%d %s\n" % (before + n, line.format(*cited).encode())
+
+
 def generate(kind, size, path):
     """Writes the text line by line: a process that is started counts what its parent held as its own peak."""
     left = size - len(HEADER)
@@ -80,8 +90,8 @@ def main():
         sys.exit("build the program first: ./mosel check < examples/swap.derivation")
     os.makedirs(OUT, exist_ok=True)
     print(f"{'input':<12} {'MB':>6} {'seconds':>8} {'MB/s':>7} {'peak MB':>8} {'times':>6}  answer")
-    for kind in (swaps, chains, shortest, statements):
-        for size in (1_000_000, 4_000_000, LIMIT):
+    for kind in (rules, swaps, chains, shortest, statements):
+        for size in SIZES:
             path = os.path.join(OUT, f"{kind.__name__}-{size}")
             length = generate(kind, size, path)
             answer, status, seconds, peak = measure(path)

@@ -1,0 +1,12 @@
+pub mod Matched
+pub mod Letters
+pub mod Computed
+pub mod Raised
+pub mod Quantified
+pub mod Conjunctions
+pub mod Terms
+pub mod Adding
+pub mod Facts
+pub mod Sums
+pub mod Shown
+pub mod Certified

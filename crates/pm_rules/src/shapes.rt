@@ -1,56 +1,64 @@
-//! The shapes of formulas that rows of the table ask for.
+//! Whether entailments have the shapes of a row.
 
 ghost use Rattle.std.specs.Prelude.{◌≡◌, ◌↔◌, IsTrue};
-ghost use Rattle.pm_rules.specs.Rules.{IsCommuted, IsCurried, IsPartOf};
+ghost use Rattle.pm_rules.specs.Rules.{IsInstance, AreInstances, HasLetters};
+ghost use Rattle.pm_rules.specs.Read.{sequent_of, sequents_of, given_of};
+ghost use Rattle.pm_rules.specs.Matching.{known, known_of, nothing, Learns};
 
-use pm_logic::{Formula, Pure, same};
+use crate::given::Given;
+use crate::matching::{Found, matches};
+use crate::pattern::Sides;
+use crate::rules::Entail;
+use crate::table::Premises;
 
-/// Whether `f` is the star of `p` and `q`.
-pub fn is_star_of(f: &Formula, p: &Formula, q: &Formula) -> bool
-    ensures { IsTrue result ↔ (f.now ≡ Formula.Sep p.now q.now) }
+/// No letter is met yet.
+fn nothing_found<'a>() -> Found<'a>
+    ensures { known result ≡ nothing }
 {
-    match f {
-        Formula::Sep(a, b) => same(a.get(), p) && same(b.get(), q),
-        _ => false,
+    Found {
+        first: None,
+        second: None,
+        third: None,
+        fourth: None,
+        pure_first: None,
+        pure_second: None,
     }
 }
 
-/// Whether the formulas are one star with its sides swapped.
-pub fn is_commuted(f: &Formula, g: &Formula) -> bool
-    ensures { IsTrue result ↔ IsCommuted f.now g.now }
+/// The letters under which the entailment has the sides, where those that were met before stand for what they did.
+#[tactic(auto, using(crate::proofs::Letters::side_denied, crate::proofs::Letters::sides_learned))]
+fn side_letters<'a>(sides: &Sides, e: &'a Entail, found: Found<'a>) -> Option<Found<'a>>
+    ensures { Learns (known found.entry) (λ s. IsInstance s (sequent_of sides.now) e.now) (known_of result) }
 {
-    match (f, g) {
-        (Formula::Sep(a, b), Formula::Sep(c, d)) => same(a.get(), d.get())
-            && same(b.get(), c.get()),
-        _ => false,
+    let found = matches(&sides.left, &e.left, found)?;
+    matches(&sides.right, &e.right, found)
+}
+
+/// The same for each premise.
+fn premise_letters<'a>(premises: &Premises, ps: Given<'a>, found: Found<'a>) -> Option<Found<'a>>
+    ensures { Learns (known found.entry) (λ s. AreInstances s (sequents_of premises.now) (given_of ps.entry)) (known_of result) }
+{
+    match (premises, ps) {
+        (Premises::Zero, Given::Zero) => Some(found),
+        (Premises::One(a), Given::One(p)) => side_letters(a, p, found),
+        (Premises::Two(a, b), Given::Two(p, q)) => {
+            let found = side_letters(a, p, found)?;
+            side_letters(b, q, found)
+        }
+        _ => None,
     }
 }
 
-/// Whether `g` is the left side of the star `f`.
-pub fn is_part_of(f: &Formula, g: &Formula) -> bool
-    ensures { IsTrue result ↔ IsPartOf f.now g.now }
+/// Whether some letters give premises and conclusion the shapes.
+#[tactic(auto, using(crate::proofs::Letters::no_conclusion, crate::proofs::Letters::no_premises))]
+pub fn has_letters(premises: &Premises, gives: &Sides, ps: Given, e: &Entail) -> bool
+    ensures { IsTrue result ↔ HasLetters (sequents_of premises.now) (sequent_of gives.now) (given_of ps.entry) e.now }
 {
-    match f {
-        Formula::Sep(a, _) => same(a.get(), g),
-        _ => false,
+    let Some(found) = side_letters(gives, e, nothing_found()) else {
+        return false;
+    };
+    match premise_letters(premises, ps, found) {
+        Some(_) => true,
+        None => false,
     }
-}
-
-/// Whether the first entailment has a part of its left side as the wand's left side in the second.
-pub fn is_curried(left: &Formula, right: &Formula, rest: &Formula, wand: &Formula) -> bool
-    ensures { IsTrue result ↔ IsCurried left.now right.now rest.now wand.now }
-{
-    match (left, wand) {
-        (Formula::Sep(p, q), Formula::Wand(r, s)) => same(p.get(), rest)
-            && same(q.get(), r.get())
-            && same(s.get(), right),
-        _ => false,
-    }
-}
-
-/// Whether `f` is truth.
-pub fn is_truth(f: &Formula) -> bool
-    ensures { IsTrue result ↔ (f.now ≡ Formula.Pure Pure.True) }
-{
-    matches!(f, Formula::Pure(Pure::True))
 }

@@ -1,25 +1,36 @@
 -- From a run that proves its lemma to the derivation that is written.
 use Rattle.std.proofs.Common.{◌≡◌, ℕ, zero, suc, ◌+◌, ◌*◌, ◌-◌, ◌<◌, ◌≤◌, ◌^◌, List, [], ◌∷◌, ◌++◌, length, refl, sym, ◌∙◌, ap, subst, arith, lit≤, ◌⊎◌, inl, inr, Option, Some, None}
-use Rattle.std.specs.Prelude.{ℤ, pos, neg_ℤ, IsTrue, map, option_map, slice_get}
+use Rattle.std.specs.Prelude.{◌&&◌, ℤ, pos, neg_ℤ, IsTrue, map, option_map, slice_get}
+use Rattle.std.specs.List.{list_all}
 use Rattle.pm_logic.specs.declared.formula.Formula.{Formula}
 use Rattle.pm_logic.specs.Trees as tree
 use Rattle.pm_logic.proofs.Views.{view_wand}
 use Rattle.pm_goal.specs.declared.goal.Hyp.{Hyp}
 use Rattle.pm_goal.specs.declared.goal.Goal.{Goal}
-use Rattle.pm_top.specs.Ranges.{is_name}
-use Rattle.pm_top.specs.Small.{IsI64, IsSmallTerm, IsSmallPure, IsSmallFormula}
-use Rattle.pm_top.specs.Spelling.{text_of}
+use Rattle.pm_logic.specs.declared.formula.Pred.{Pred}
+use Rattle.pm_logic.specs.Scope.{no_predicates}
+use Rattle.pm_text.specs.Names.{is_name}
+use Rattle.pm_dtext.specs.declared.line.Line.{Line}
+use Rattle.pm_dtext.specs.declared.line.Line.TheVariants.{Step, Qed}
+use Rattle.pm_dtext.specs.Ranges.{IsI64}
+use Rattle.pm_dtext.specs.Spelling.{items_text, header_text, arities_text, line_text}
+use Rattle.pm_check.specs.Table.{BeginsTable}
+use Rattle.pm_check.specs.Derivation as checked
+use Rattle.pm_check.specs.Derivation.{derivation_text}
+use Rattle.pm_top.specs.Small.{IsSmallTerm, IsSmallPure, IsSmallFormula}
 use Rattle.pm_top.specs.Connectives.{connectives}
 use Rattle.pm_top.specs.Sentence.{Sentence, Lemma}
-use Rattle.pm_top.specs.Tokens.{Token, Place, number_of}
+use Rattle.pm_top.specs.Tokens.{Token, Place, is_letter, is_name_byte, is_small_name, number_of}
 use Rattle.pm_top.specs.Script.{IsOperand, Binding, IsFormula, IsStatement, IsSentence, AreSentences, IsSmallScript}
 use Rattle.pm_top.specs.Script as g
 use Rattle.pm_top.specs.Running as run
 use Rattle.pm_top.specs.Running.{without, whole, IsClosedBy, Outcome, accepted, InProof, RunsTo}
 use Rattle.pm_top.specs.Proving.{wands, proof_of}
-use Rattle.pm_top.specs.Written.{onto, newest_first}
-use Rattle.pm_top.specs.RunTexts.{Derives}
-use Rattle.pm_top.proofs.Proving.{proof_derives, proof_fits, proof_states}
+use Rattle.pm_top.specs.Written.{onto, newest_first, lines_text, text_of}
+use Rattle.pm_top.specs.RunTexts.{stated, Derives}
+use Rattle.pm_top.proofs.Lines.{each_none}
+use Rattle.pm_top.proofs.Proving.{proof_follows, proof_states}
+use Rattle.pm_top.proofs.Steps.{both_true}
 use Rattle.pm_top.specs.Runs.{intro_count}
 use Rattle.pm_top.proofs.ScriptLaws.{script_small}
 use Rattle.pm_top.proofs.ScriptLength.{script_length}
@@ -99,11 +110,15 @@ statement_small ts f (g.IsStatement.entails {ls = ls} {rs = rs} {f = l} {g = r} 
 abbrev LemmaFits : List ℕ → Formula → Type 0
 LemmaFits name f = IsTrue (is_name name) × IsSmallFormula f
 
+named_small : (n : List ℕ) → IsTrue (is_small_name n) → IsTrue (is_name n)
+named_small [] is = absurd cc
+named_small (b ∷ bs) is = (both_true (is_letter b && list_all is_name_byte bs) (is_name (b ∷ bs)) is).1
+
 sentence_fits : (ts : List Token) (s : Sentence) → IsSentence ts s → (name : List ℕ) (f : Formula) → s ≡ Lemma name f → LemmaFits name f
 sentence_fits ts s (g.lemma {n = n} {ts = us} {f = k} is h) name f e =
     let same_name : n ≡ name = cc in
     let same : k ≡ f = cc in
-    (subst (λ (x : List ℕ). IsTrue (is_name x)) same_name is, subst IsSmallFormula same (statement_small us k h))
+    (subst (λ (x : List ℕ). IsTrue (is_name x)) same_name (named_small n is), subst IsSmallFormula same (statement_small us k h))
 sentence_fits ts s g.intros name f e = absurd cc
 sentence_fits ts s g.exact name f e = absurd cc
 sentence_fits ts s g.qed name f e = absurd cc
@@ -134,11 +149,28 @@ runs_lemma size ss o (run.no_proof_yet at s rest d) l e = absurd cc
 
 -- ---- the derivation
 
+lines_same : (n : ℕ) (ls : List Line) (rest : List ℕ) → lines_text n ls rest ≡ checked.lines_text n ls rest
+lines_same n [] rest = refl
+lines_same n (Step rule first second e ∷ ls) rest = ap (line_text n (Step rule first second e)) (ap (λ (k : ℕ). lines_text k ls rest) (next n) ∙ lines_same (suc n) ls rest)
+  where
+    next : (m : ℕ) → m + 1 ≡ suc m
+    next m = omega arith
+lines_same n (Qed name cited ∷ ls) rest = ap (line_text n (Qed name cited)) (lines_same n ls rest)
+
+text_same : (ls : List Line) → text_of ls ≡ derivation_text no_predicates ls []
+text_same ls = ap (λ t. header_text (arities_text [] t)) (lines_same 1 ls [])
+
+no_table : BeginsTable [] []
+no_table = record { fit = (omega arith, tt); each = λ before q behind e. absurd (none before q behind e); guarded = λ p lt. absurd (omega (arith, lt)) }
+  where
+    none : (before : List Pred) (q : Pred) (behind : List Pred) → [] ≡ before ++ q ∷ behind → ⊥
+    none [] q behind e = cc
+    none (x ∷ before) q behind e = cc
+
 pub derives_nothing : (text : List ℕ) → text ≡ text_of [] → Derives text None
 derives_nothing text e = record {
   lines = [];
-  spelled = record { fit = tt; spelled = e };
-  follows = record { each = λ i l is. absurd cc };
+  whole = record { text = e ∙ text_same []; table = no_table; each = each_none };
   states = refl;
 }
 
@@ -152,19 +184,18 @@ derives_proved bytes ss name goal place text small runs closed e =
     let few : connectives (whole goal) ≤ 900 = omega (arith, size, small.short) in
     let hs = newest_first goal.spats in
     let d = length goal.spats - 1 - place in
+    let wands_small = subst IsSmallFormula (sym same) fits.1 in
+    let wands_few = subst (λ (f : Formula). connectives f ≤ 900) (sym same) few in
     record {
       lines = proof_of name hs d goal.concl;
-      spelled = record {
-        fit = proof_fits name hs d goal.concl there fits.0 (subst IsSmallFormula (sym same) fits.1) (subst (λ (f : Formula). connectives f ≤ 900) (sym same) few);
-        spelled = e;
-      };
-      follows = proof_derives name hs d goal.concl there;
-      states = proof_states name hs d goal.concl there ∙ ap (λ (f : Formula). (name, Some f) ∷ []) same;
+      whole = record { text = e ∙ text_same (proof_of name hs d goal.concl); table = no_table; each = proof_follows name hs d goal.concl there fits.0 wands_small wands_few };
+      states = sym (proof_states name hs d goal.concl there wands_small wands_few ∙ ap (λ (f : Formula). stated (Some (name, f))) same);
     }
 
 -- ---- its length is within what `check` takes
 
 pub nothing_short : (text : List ℕ) → text ≡ text_of [] → length text ≤ 16777216
+unfolding items_text
 nothing_short text e = let same : length text ≡ 27 = ap length e in omega (arith, same)
 
 low_or_high : (n k : ℕ) → (n ≤ k) ⊎ (k ≤ n)

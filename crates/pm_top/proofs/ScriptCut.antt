@@ -11,8 +11,7 @@ use Rattle.std.proofs.lemmas.List.{map-append}
 use Rattle.std.proofs.lemmas.Slice.Eq.{starts_is}
 use Rattle.pm_top.specs.declared.script_signs.Sign.{Sign}
 use Rattle.pm_top.specs.declared.script_signs.Sign.TheVariants.{Open, Close, Colon, Star, Wand, PointsTo, Entails, Minus, Stop}
-use Rattle.pm_top.specs.Ranges.{is_letter, is_name_byte}
-use Rattle.pm_top.specs.Tokens.{Token, word, number, quoted, sign, Place, place, front, past, is_blank, is_digit, is_label, begins, star_mark, arrow_mark, turnstile_mark, ends, sign_at, sign_token, stop_at, closed_at, quoted_at, number_behind, number_of, first_token, AreTokens, token_of, place_of, places}
+use Rattle.pm_top.specs.Tokens.{is_letter, is_name_byte, Token, word, number, quoted, sign, Place, place, front, past, is_blank, is_digit, is_label, begins, star_mark, arrow_mark, turnstile_mark, ends, sign_at, sign_token, stop_at, closed_at, quoted_at, number_behind, number_of, first_token, AreTokens, token_of, place_of, places}
 use Rattle.pm_top.specs.declared.tokens.Placed.{Placed}
 use Rattle.pm_top.specs.Tokens as cut
 use Rattle.pm_top.proofs.ScriptLoops.{First, Found, found_all, found_more}

@@ -13,7 +13,7 @@ use Rattle.pm_top.specs.Script.{IsOperand, Binding, IsFormula, IsStatement, IsSe
 use Rattle.pm_top.specs.Script as g
 use Rattle.pm_top.specs.Sentence.{Sentence, Lemma}
 use Rattle.pm_top.specs.Runs.{intro_count}
-use Rattle.pm_top.specs.Spelling.{term_text, formula_text}
+use Rattle.pm_dtext.specs.Spelling.{term_text, formula_text}
 use Rattle.pm_top.specs.Tokens.{Token, sign, Place, place, tokens_at, number_of}
 use Rattle.pm_top.proofs.ScriptCut.{number_small}
 use Rattle.pm_top.proofs.ScriptLaws.{bytes_of, bytes-append, tokens-append, tokens_bytes, operand_bytes}

@@ -13,12 +13,11 @@ use Rattle.pm_logic.proofs.Views.{view_sep, view_wand}
 use Rattle.pm_top.specs.declared.script_signs.Sign.TheVariants as s
 use Rattle.pm_top.specs.declared.script_formula.Level.{Level}
 use Rattle.pm_top.specs.declared.script_formula.Level.TheVariants.{Wands, Stars}
-use Rattle.pm_top.specs.Ranges.{is_name}
 use Rattle.pm_top.specs.Script.{IsOperand, Binding, IsFormula, IsStatement, IsSentence}
 use Rattle.pm_top.specs.Script as g
 use Rattle.pm_top.specs.ScriptReading.{Read, ◌>>=◌, is_sign, sees, expect, literal, negative, minus_at, operand, points, truth_at, or_else, Rights, infix_of, joined, infix_at, behind, closing, atom, at_level, formula, all_of, whole, entailed, statement, lemma_at, label_at, is_none_left, sentence_behind, sentence}
 use Rattle.pm_top.specs.Sentence.{Sentence, Lemma, Intros, Exact, Qed}
-use Rattle.pm_top.specs.Tokens.{Token, word, number, quoted, sign, number_of}
+use Rattle.pm_top.specs.Tokens.{is_small_name, Token, word, number, quoted, sign, number_of}
 use Rattle.pm_top.proofs.ScriptSteps.{with_some, some_same, is_sign_is, sees_is, expect_is}
 use Rattle.pm_top.proofs.Steps.{some_is, lt_true, le_true, chosen}
 
@@ -198,9 +197,9 @@ sound_lemma [] x e = absurd cc
 sound_lemma (number ds ∷ ts) x e = absurd cc
 sound_lemma (quoted n ∷ ts) x e = absurd cc
 sound_lemma (sign r ∷ ts) x e = absurd cc
-sound_lemma (word n ∷ ts) x e = named (is_name n) refl e
+sound_lemma (word n ∷ ts) x e = named (is_small_name n) refl e
   where
-    named : (b : Bool) → is_name n ≡ b → cond b (expect s.Colon ts >>= λ rest. statement rest >>= λ f. Some (Lemma n f)) None ≡ Some x → IsSentence (word (codes "Lemma") ∷ word n ∷ ts) x
+    named : (b : Bool) → is_small_name n ≡ b → cond b (expect s.Colon ts >>= λ rest. statement rest >>= λ f. Some (Lemma n f)) None ≡ Some x → IsSentence (word (codes "Lemma") ∷ word n ∷ ts) x
     named false is e = absurd cc
     named true is e =
         with_some (expect s.Colon ts) (λ rest. statement rest >>= λ f. Some (Lemma n f)) x e λ rest colon k.

@@ -1,5 +1,5 @@
 -- The texts of terms and formulas, at the variants as code makes them.
-use Rattle.std.proofs.Common.{◌≡◌, ◌⊎◌, inl, inr, ℕ, zero, suc, ◌<◌, ◌≤◌, ◌+◌, ◌-◌, List, [], ◌∷◌, ◌++◌, length, take, drop, get_or, refl, sym, ◌∙◌, ap, subst, arith, Result, Ok, Err, append_assoc, append-nil}
+use Rattle.std.proofs.Common.{◌≡◌, ◌⊎◌, inl, inr, ℕ, zero, suc, ◌<◌, ◌≤◌, ◌-◌, List, [], ◌∷◌, ◌++◌, length, take, drop, get_or, refl, sym, ◌∙◌, ap, arith, Result, Ok, Err, append_assoc, append-nil}
 use Rattle.std.specs.Prelude.{codes, OnOk, ℤ}
 use Rattle.std.specs.Fmt.{decimal, signed_decimal}
 use Rattle.pm_logic.specs.declared.list.Memory.{Memory}
@@ -17,7 +17,8 @@ use Rattle.pm_logic.specs.declared.formula.Formula.TheViews as view
 use Rattle.pm_logic.specs.declared.formula.Formula.TheBlock as block
 use denote.Hole.Carrier as carrier
 use Rattle.pm_logic.specs.Trees as tree
-use Rattle.pm_top.specs.Spelling.{term_sign, pure_sign, formula_sign, term_text, pure_text, args_text, formula_text}
+use Rattle.pm_dtext.specs.Spelling.{term_text, pure_text, items_text, formula_text}
+use Rattle.pm_top.specs.Signs.{term_sign, pure_sign, formula_sign}
 
 -- ---- pieces one after the other
 
@@ -53,11 +54,11 @@ term_before (tree.scale z t) rest = factor (signed_decimal z) (term_text t) (λ 
     factor : (ds : List ℕ) (f : List ℕ → List ℕ) → ((r : List ℕ) → f r ≡ f [] ++ r) → codes "mul " ++ (ds ++ (32 ∷ f rest)) ≡ (codes "mul " ++ (ds ++ (32 ∷ f []))) ++ rest
     factor ds f before = ap (λ t. codes "mul " ++ (ds ++ (32 ∷ t))) (before rest) ∙ ap (λ t. codes "mul " ++ t) (sym (append_assoc ds (32 ∷ f []) rest))
 
-pub args_before : (ts : List Term) (rest : List ℕ) → args_text ts rest ≡ args_text ts [] ++ rest
-unfolding args_text
-args_before [] rest = refl
-args_before (t ∷ ts) rest =
-    ap (λ x. 32 ∷ x) (term_before t (args_text ts rest) ∙ ap (λ x. term_text t [] ++ x) (args_before ts rest) ∙ sym (append_assoc (term_text t []) (args_text ts []) rest) ∙ ap (λ x. x ++ rest) (sym (term_before t (args_text ts []))))
+pub items_before : {A : Type 0} (text : A → List ℕ → List ℕ) → ((x : A) (r : List ℕ) → text x r ≡ text x [] ++ r) → (xs : List A) (rest : List ℕ) → items_text text xs rest ≡ items_text text xs [] ++ rest
+unfolding items_text
+items_before text each [] rest = refl
+items_before text each (x ∷ xs) rest =
+    ap (λ t. 32 ∷ t) (each x (items_text text xs rest) ∙ ap (λ t. text x [] ++ t) (items_before text each xs rest) ∙ sym (append_assoc (text x []) (items_text text xs []) rest) ∙ ap (λ t. t ++ rest) (sym (each x (items_text text xs []))))
 
 pub pure_before : (p : Pure) (rest : List ℕ) → pure_text p rest ≡ pure_text p [] ++ rest
 unfolding pure_text
@@ -88,7 +89,7 @@ formula_before (Pts l u v) rest =
   where
     regroup : (a b c : List ℕ) → a ++ (32 ∷ (b ++ (32 ∷ (c ++ rest)))) ≡ (a ++ (32 ∷ (b ++ (32 ∷ c)))) ++ rest
     regroup a b c = simp append_assoc
-formula_before (Call p ts) rest = part_before (λ r. decimal p ++ args_text ts r) (codes "call ") rest (λ r. ap (λ t. decimal p ++ t) (args_before ts r) ∙ sym (append_assoc (decimal p) (args_text ts []) r))
+formula_before (Call p ts) rest = part_before (λ r. decimal p ++ items_text term_text ts r) (codes "call ") rest (λ r. ap (λ t. decimal p ++ t) (items_before term_text term_before ts r) ∙ sym (append_assoc (decimal p) (items_text term_text ts []) r))
 
 -- ---- the texts of the writer's variants
 
@@ -142,16 +143,16 @@ take_all [] (suc n) le = refl
 take_all (x ∷ xs) zero le = absurd (omega arith)
 take_all (x ∷ xs) (suc n) le = ap (λ ys. x ∷ ys) (take_all xs n (omega arith))
 
-pub text_no_args : (ts : List Term) (out : List ℕ) → length ts < 1 → out ≡ out ++ args_text ts []
-unfolding args_text
+pub text_no_args : (ts : List Term) (out : List ℕ) → length ts < 1 → out ≡ out ++ items_text term_text ts []
+unfolding items_text
 text_no_args [] out few = sym (append-nil out)
 text_no_args (t ∷ ts) out few = absurd (omega arith)
 
-pub text_more_args : (ts : List Term) (t : Term) → 1 ≤ length ts → t ≡ get_or ts 0 t → args_text ts [] ≡ codes " " ++ (term_text t [] ++ args_text (take (length ts - 1) (drop 1 ts)) [])
-unfolding args_text
+pub text_more_args : (ts : List Term) (t : Term) → 1 ≤ length ts → t ≡ get_or ts 0 t → items_text term_text ts [] ≡ codes " " ++ (term_text t [] ++ items_text term_text (take (length ts - 1) (drop 1 ts)) [])
+unfolding items_text
 text_more_args [] t some at = absurd (omega arith)
 text_more_args (s ∷ ts) t some at =
-    ap (λ x. 32 ∷ x) (term_before s (args_text ts []) ∙ ap (λ (x : Term). term_text x [] ++ args_text ts []) (sym at) ∙ ap (λ us. term_text t [] ++ args_text us []) (sym (take_all ts (length (s ∷ ts) - 1) (omega arith))))
+    ap (λ x. 32 ∷ x) (term_before s (items_text term_text ts []) ∙ ap (λ (x : Term). term_text x [] ++ items_text term_text ts []) (sym at) ∙ ap (λ us. term_text t [] ++ items_text term_text us []) (sym (take_all ts (length (s ∷ ts) - 1) (omega arith))))
 
 pub three : (t₀ t₁ t₂ t₃ a b c total : List ℕ) (r : Result (Unit {0}) Memory) → t₁ ≡ t₀ ++ a → t₂ ≡ t₁ ++ b → OnOk r (t₃ ≡ t₂ ++ c) → total ≡ a ++ (b ++ c) → OnOk r (t₃ ≡ t₀ ++ total)
 three t₀ t₁ t₂ t₃ a b c total (Ok u) h₁ h₂ h₃ whole = h₃ ∙ rw (h₂, h₁, whole) (simp append_assoc)
@@ -181,9 +182,9 @@ pub text_pts : (w : List ℕ) (f : Formula) (l : Term) (u : ℕ) (v : Term) → 
 unfolding formula_text
 text_pts w f l u v ew e = rw (ew, e) (ap (λ t. codes "pts " ++ t) (term_before l (32 ∷ (decimal u ++ (32 ∷ term_text v []))) ∙ ap (λ t. term_text l [] ++ (32 ∷ t)) (sym (append_assoc (decimal u) (codes " ") (term_text v [])))))
 
-pub text_call : (w : List ℕ) (f : Formula) (p : ℕ) (ts ts' : List Term) → w ≡ codes "call " ++ decimal p → f ≡ Call p ts → ts' ≡ ts → formula_text f [] ≡ w ++ args_text ts' []
+pub text_call : (w : List ℕ) (f : Formula) (p : ℕ) (ts ts' : List Term) → w ≡ codes "call " ++ decimal p → f ≡ Call p ts → ts' ≡ ts → formula_text f [] ≡ w ++ items_text term_text ts' []
 unfolding formula_text
-text_call w f p ts ts' ew e ets = rw (ew, e, ets) (sym (append_assoc (codes "call ") (decimal p) (args_text ts [])))
+text_call w f p ts ts' ew e ets = rw (ew, e, ets) (sym (append_assoc (codes "call ") (decimal p) (items_text term_text ts [])))
 
 -- ---- the words that texts begin with
 

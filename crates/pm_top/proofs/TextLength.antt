@@ -1,6 +1,6 @@
 -- How long the text is that is written for a lemma.
 use Rattle.std.proofs.Common.{◌≡◌, ℕ, zero, suc, ◌+◌, ◌*◌, ◌<◌, ◌≤◌, ◌^◌, List, [], ◌∷◌, ◌++◌, length, refl, ◌∙◌, ap, arith, append_assoc, length-append, Option, Some, None}
-use Rattle.std.specs.Prelude.{⊤, codes, slice_get}
+use Rattle.std.specs.Prelude.{⊤, slice_get}
 use Rattle.std.specs.List.{AllByRecursion}
 use Rattle.std.specs.Fmt.{decimal}
 use Rattle.std.proofs.lemmas.Fmt.{length-decimal-le}
@@ -11,10 +11,12 @@ use Rattle.pm_logic.specs.declared.formula.Formula.{Formula}
 use Rattle.pm_logic.specs.declared.formula.Formula.TheVariants.{Pure as Fact}
 use Rattle.pm_logic.specs.Trees.{Sep, Wand}
 use Rattle.pm_rules.specs.declared.rules.Rule.{Rule}
-use Rattle.pm_rules.specs.declared.rules.Rule.TheVariants.{Refl, Trans, True, SepMono, SepComm, SepWeaken, WandI, WandE}
+use Rattle.pm_rules.specs.declared.rules.Rule.TheVariants.{Trans, SepComm, SepWeaken, WandI}
 use Rattle.pm_rules.specs.declared.rules.Entail.{Entail}
-use Rattle.pm_top.specs.Line.{Line, Step, Qed}
-use Rattle.pm_top.specs.Spelling.{pure_text, formula_text, rule_name, cite_text, line_text, lines_text, text_of}
+use Rattle.pm_dtext.specs.declared.line.Line.{Line}
+use Rattle.pm_dtext.specs.declared.line.Line.TheVariants.{Step, Qed}
+use Rattle.pm_dtext.specs.Spelling.{pure_text, items_text, formula_text, rule_name, args_text, cite_text, line_text}
+use Rattle.pm_top.specs.Written.{lines_text, text_of}
 use Rattle.pm_top.proofs.Spelled.{formula_before}
 use Rattle.pm_top.specs.Proving.{star_of, wands, entails, closing, currying, proof_of}
 
@@ -66,15 +68,26 @@ text_len_swapped p q = omega (arith, text_len_sep p q, text_len_sep q p)
 length_number : (n : ℕ) → n < 2 ^ 62 → length (decimal n) ≤ 20
 length_number n lt = length-decimal-le 20 n (omega arith) (omega arith) (omega arith)
 
-length_rule : (r : Rule) → length (rule_name r) ≤ 10
-length_rule Refl = omega arith
-length_rule Trans = omega arith
-length_rule True = omega arith
-length_rule SepMono = omega arith
-length_rule SepComm = omega arith
-length_rule SepWeaken = omega arith
-length_rule WandI = omega arith
-length_rule WandE = omega arith
+-- a rule without arguments whose name is short
+pub record IsPlain (rule : Rule) : Type 0 where
+  pub name : length (rule_name rule) ≤ 10
+  pub args : (rest : List ℕ) → args_text rule rest ≡ rest
+
+comm_plain : IsPlain SepComm
+unfolding args_text
+comm_plain = record { name = omega arith; args = λ rest. refl }
+
+weaken_plain : IsPlain SepWeaken
+unfolding args_text
+weaken_plain = record { name = omega arith; args = λ rest. refl }
+
+trans_plain : IsPlain Trans
+unfolding args_text
+trans_plain = record { name = omega arith; args = λ rest. refl }
+
+wand_plain : IsPlain WandI
+unfolding args_text
+wand_plain = record { name = omega arith; args = λ rest. refl }
 
 -- a citation, if there is one, is below 2 ^ 62
 abbrev pub CiteSmall : Option ℕ → Type 0
@@ -85,47 +98,55 @@ length_cite : (o : Option ℕ) (rest : List ℕ) → CiteSmall o → length (cit
 length_cite None rest small = omega arith
 length_cite (Some n) rest small = omega (arith, length_number n small, length-append (decimal n) rest)
 
--- a proof line, and what comes after it
-pub step_length : (n : ℕ) (rule : Rule) (first second : Option ℕ) (e : Entail) (rest : List ℕ) → n < 2 ^ 62 → CiteSmall first → CiteSmall second
+-- a proof line with no variables, and what comes after it
+pub step_length : (n : ℕ) (rule : Rule) (first second : Option ℕ) (e : Entail) (rest : List ℕ) → IsPlain rule → e.vars ≡ 0 → n < 2 ^ 62 → CiteSmall first → CiteSmall second
     → length (line_text n (Step rule first second e) rest) ≤ text_len e.left + text_len e.right + 100 + length rest
-step_length n rule first second e rest lt a b =
+step_length n rule first second e rest plain closed lt a b =
     let right : List ℕ = formula_text e.right (10 ∷ rest) in
-    let sides : List ℕ = formula_text e.left (32 ∷ right) in
-    let cites : List ℕ = cite_text second (32 ∷ sides) in
-    let body : List ℕ = codes " 0" ++ cite_text first cites in
+    let sides : List ℕ = 32 ∷ formula_text e.left (32 ∷ right) in
+    let args : List ℕ = args_text rule sides in
+    let cites : List ℕ = cite_text first (cite_text second args) in
+    let body : List ℕ = decimal e.vars ++ cites in
     omega (
       arith,
       length_formula e.right (10 ∷ rest),
       length_formula e.left (32 ∷ right),
-      length_cite second (32 ∷ sides) b,
-      length_cite first cites a,
-      length-append (rule_name rule) body,
-      length_rule rule,
-      length-append (decimal n) (32 ∷ (rule_name rule ++ body)),
+      ap length (plain.args sides),
+      length_cite second args b,
+      length_cite first (cite_text second args) a,
+      length-append (decimal e.vars) cites,
+      length_number e.vars (omega (arith, closed)),
+      length-append (rule_name rule) (32 ∷ body),
+      plain.name,
+      length-append (decimal n) (32 ∷ (rule_name rule ++ (32 ∷ body))),
       length_number n lt,
     )
-
-pub line_length : (n : ℕ) (rule : Rule) (first second : Option ℕ) (e : Entail) → n < 2 ^ 62 → CiteSmall first → CiteSmall second
-    → length (line_text n (Step rule first second e) []) ≤ text_len e.left + text_len e.right + 100
-line_length n rule first second e lt a b = omega (arith, step_length n rule first second e [] lt a b)
 
 pub qed_length : (name : List ℕ) (n cited : ℕ) (rest : List ℕ) → cited < 2 ^ 62 → length (line_text n (Qed name cited) rest) ≤ length name + 30 + length rest
 qed_length name n cited rest lt =
     let behind : List ℕ = decimal cited ++ (10 ∷ rest) in
     omega (arith, length-append name (32 ∷ behind), length-append (decimal cited) (10 ∷ rest), length_number cited lt)
 
--- a proof line whose citations are below 2 ^ 62, and of whose sides each has at most m bytes
-abbrev pub Short : ℕ → Line → Type 0
-Short m (Step rule first second e) = (CiteSmall first × CiteSmall second) × ((text_len e.left ≤ m) × (text_len e.right ≤ m))
+-- a proof line by a plain rule with no variables, whose citations are below 2 ^ 62, and of whose sides each has at most m bytes
+record IsShort (m : ℕ) (rule : Rule) (first second : Option ℕ) (e : Entail) : Type 0 where
+  plain : IsPlain rule
+  closed : e.vars ≡ 0
+  first_small : CiteSmall first
+  second_small : CiteSmall second
+  left : text_len e.left ≤ m
+  right : text_len e.right ≤ m
+
+abbrev Short : ℕ → Line → Type 0
+Short m (Step rule first second e) = IsShort m rule first second e
 Short m (Qed name cited) = ⊥
 
-pub lines_length : (n m : ℕ) (ls : List Line) (name : List ℕ) (cited : ℕ) → n + length ls < 2 ^ 62 → cited < 2 ^ 62 → AllByRecursion (Short m) ls
+lines_length : (n m : ℕ) (ls : List Line) (name : List ℕ) (cited : ℕ) → n + length ls < 2 ^ 62 → cited < 2 ^ 62 → AllByRecursion (Short m) ls
     → length (lines_text n (ls ++ Qed name cited ∷ []) []) ≤ length ls * (2 * m + 100) + length name + 30
 lines_length n m [] name cited lt ct all = omega (arith, qed_length name n cited [] ct)
 lines_length n m (Step rule first second e ∷ ls) name cited lt ct all =
     let rest : List ℕ = lines_text (n + 1) (ls ++ Qed name cited ∷ []) [] in
     let inner = lines_length (n + 1) m ls name cited (omega arith) ct all.1 in
-    omega (arith, inner, step_length n rule first second e rest (omega arith) all.0.0.0 all.0.0.1, all.0.1.0, all.0.1.1)
+    omega (arith, inner, step_length n rule first second e rest all.0.plain all.0.closed (omega arith) all.0.first_small all.0.second_small, all.0.left, all.0.right)
 lines_length n m (Qed x k ∷ ls) name cited lt ct all = absurd all.0
 
 all_joined : (m : ℕ) (ls ks : List Line) → AllByRecursion (Short m) ls → AllByRecursion (Short m) ks → AllByRecursion (Short m) (ls ++ ks)
@@ -149,21 +170,28 @@ currying_count n (h ∷ hs) c = omega (arith, currying_count (n + 1) hs (Wand h 
 closing_short : (m : ℕ) (hs : List Formula) (d : ℕ) (c : Formula) → d < length hs → length hs < 2 ^ 32 → text_len (star_of hs) ≤ m → text_len c ≤ m → AllByRecursion (Short m) (closing hs d c)
 closing_short m [] d c lt few sm cm = absurd (omega arith)
 closing_short m (h ∷ hs) zero c lt few sm cm =
-    let swapped : text_len (Sep h (star_of hs)) ≤ m = omega (arith, sm, text_len_swapped h (star_of hs)) in
-    (((tt, tt), (sm, swapped)), (((tt, tt), (swapped, cm)), (((omega arith, omega arith), (sm, cm)), tt)))
+    let swapped : text_len (Sep h (star_of hs)) ≤ m = omega (arith, sm, text_len_swapped h (star_of hs)) in (
+      record { plain = comm_plain; closed = refl; first_small = tt; second_small = tt; left = sm; right = swapped },
+      (
+        record { plain = weaken_plain; closed = refl; first_small = tt; second_small = tt; left = swapped; right = cm },
+        (record { plain = trans_plain; closed = refl; first_small = omega arith; second_small = omega arith; left = sm; right = cm }, tt),
+      ),
+    )
 closing_short m (h ∷ hs) (suc d) c lt few sm cm =
     let s : Formula = star_of hs in
     let one : text_len s ≤ m = omega (arith, sm, text_len_star_more h hs) in
     let two : List Line = Step SepWeaken None None (entails (Sep s h) s) ∷ Step Trans (Some (2 * d + 4)) (Some (2 * d + 3)) (entails (Sep s h) c) ∷ [] in
-    all_joined m (closing hs d c) two (closing_short m hs d c (omega arith) (omega arith) one cm)
-    (((tt, tt), (sm, one)), (((omega arith, omega arith), (sm, cm)), tt))
+    all_joined m (closing hs d c) two (closing_short m hs d c (omega arith) (omega arith) one cm) (
+      record { plain = weaken_plain; closed = refl; first_small = tt; second_small = tt; left = sm; right = one },
+      (record { plain = trans_plain; closed = refl; first_small = omega arith; second_small = omega arith; left = sm; right = cm }, tt),
+    )
 
 currying_short : (m n : ℕ) (hs : List Formula) (c : Formula) → n + length hs < 2 ^ 62 → text_len (star_of hs) ≤ m → text_len (wands hs c) ≤ m → AllByRecursion (Short m) (currying n hs c)
 currying_short m n [] c lt sm wm = tt
 currying_short m n (h ∷ hs) c lt sm wm =
     let one : text_len (star_of hs) ≤ m = omega (arith, sm, text_len_star_more h hs) in
     let two : text_len (Wand h c) ≤ m = omega (arith, wm, text_len_wands hs (Wand h c)) in
-    (((omega arith, tt), (one, two)), currying_short m (n + 1) hs (Wand h c) (omega arith) one wm)
+    (record { plain = wand_plain; closed = refl; first_small = omega arith; second_small = tt; left = one; right = two }, currying_short m (n + 1) hs (Wand h c) (omega arith) one wm)
 
 -- the proof lines of the whole
 abbrev all_lines : List Formula → ℕ → Formula → List Line
@@ -184,6 +212,7 @@ whole name hs d c = append_assoc (closing hs d c) (currying (2 * d + 3) hs c) (Q
 -- ---- the whole text
 
 header_length : (ls : List Line) → length (text_of ls) ≡ length (lines_text 1 ls []) + 27
+unfolding items_text
 header_length ls = omega arith
 
 pub proof_length : (name : List ℕ) (hs : List Formula) (d : ℕ) (c : Formula) (most : ℕ) → slice_get hs d ≡ Some c → text_len (wands hs c) ≤ most → length hs < 2 ^ 32

@@ -1,23 +1,24 @@
 -- Texts that are written piece by piece.
-use Rattle.std.proofs.Common.{◌≡◌, ℕ, zero, suc, ◌+◌, ◌*◌, ◌-◌, ◌<◌, ◌≤◌, List, [], ◌∷◌, ◌++◌, length, take, drop, get_or, refl, sym, ◌∙◌, ap, ap₂, subst, arith, Option, Some, None, Result, Ok, Err, append_assoc, append-nil}
+use Rattle.std.proofs.Common.{◌≡◌, ℕ, zero, suc, ◌+◌, ◌*◌, ◌-◌, ◌<◌, ◌≤◌, List, [], ◌∷◌, ◌++◌, length, take, drop, get_or, refl, sym, ◌∙◌, ap, ap₂, subst, arith, Option, Some, None, Result, Ok, Err, append_assoc}
 use Rattle.std.specs.Prelude.{codes, OnOk}
 use Rattle.std.specs.Fmt.{decimal}
-use Rattle.pm_logic.specs.declared.formula.Term.TheVariants.{Lit}
+use Rattle.std.proofs.lemmas.Fmt.{decimal_digit}
 use Rattle.pm_logic.specs.declared.formula.Formula.{Formula}
-use Rattle.pm_logic.specs.declared.formula.Formula.TheVariants.{Pure as Fact, Pts}
-use Rattle.pm_logic.specs.declared.formula.Formula.TheViews as view
+use Rattle.pm_logic.specs.declared.formula.Formula.TheVariants.{Pure as Fact}
 use Rattle.pm_logic.specs.declared.formula.Pure.TheVariants as pure
 use Rattle.pm_logic.specs.declared.list.Memory.{Memory}
 use Rattle.pm_logic.specs.Trees.{Sep, Wand}
-use Rattle.pm_logic.proofs.Views.{view_sep, view_wand}
+use Rattle.pm_rules.specs.declared.rules.Rule.{Rule}
 use Rattle.pm_rules.specs.declared.rules.Rule.TheVariants.{Trans, SepComm, SepWeaken, WandI}
 use Rattle.pm_goal.specs.declared.goal.Hyp.{Hyp}
-use Rattle.pm_top.specs.Line.{Line, Step, Qed}
-use Rattle.pm_top.specs.Spelling.{pure_text, formula_text, rule_name, cite_text, next_number, line_text, lines_text, text_of}
+use Rattle.pm_rules.specs.declared.rules.Entail.{Entail}
+use Rattle.pm_dtext.specs.declared.line.Line.{Line}
+use Rattle.pm_dtext.specs.declared.line.Line.TheVariants.{Step, Qed}
+use Rattle.pm_dtext.specs.Spelling.{pure_text, items_text, formula_text, rule_name, args_text, cite_text, entail_text, line_text}
 use Rattle.pm_top.specs.Proving.{star_of, wands, entails, closing, currying, proof_of}
-use Rattle.pm_top.specs.Written.{onto, newest_first}
-use Rattle.pm_top.proofs.Judging.{number_after}
-use Rattle.pm_top.proofs.Spelled.{four, formula_before, take_all}
+use Rattle.pm_top.specs.Written.{onto, newest_first, next_number, lines_text, text_of}
+use Rattle.pm_top.proofs.Spelled.{formula_before, take_all}
+use Rattle.pm_top.proofs.Arguments.{args_before}
 
 -- ---- pieces one after the other
 
@@ -105,18 +106,28 @@ cite_before : (o : Option ℕ) (t rest : List ℕ) → cite_text o (t ++ rest) �
 cite_before None t rest = refl
 cite_before (Some n) t rest = ap (λ r. 32 ∷ r) (sym (append_assoc (decimal n) t rest))
 
+entail_before : (e : Entail) (rest : List ℕ) → entail_text e (10 ∷ rest) ≡ entail_text e (10 ∷ []) ++ rest
+entail_before e rest = ap (λ t. 32 ∷ t) (sides_before e.left e.right rest)
+
 line_before : (n : ℕ) (l : Line) (rest : List ℕ) → line_text n l rest ≡ line_text n l [] ++ rest
 line_before n (Qed name c) rest = simp append_assoc
 line_before n (Step rule first second e) rest =
-    let sides = formula_text e.left (32 ∷ formula_text e.right (10 ∷ [])) in
-    ap (λ t. decimal n ++ (32 ∷ (rule_name rule ++ (codes " 0" ++ t))))
-    (ap (λ t. cite_text first (cite_text second (32 ∷ t))) (sides_before e.left e.right rest)
-    ∙ ap (cite_text first) (cite_before second (32 ∷ sides) rest)
-    ∙ cite_before first (cite_text second (32 ∷ sides)) rest)
-    ∙ regroup (decimal n) (rule_name rule) (cite_text first (cite_text second (32 ∷ sides)))
+    let sides = entail_text e (10 ∷ []) in
+    let args = args_text rule sides in
+    let with_args : args_text rule (entail_text e (10 ∷ rest)) ≡ args ++ rest = ap (args_text rule) (entail_before e rest) ∙ args_before rule sides rest in
+    ap (λ t. decimal n ++ (32 ∷ (rule_name rule ++ (32 ∷ (decimal e.vars ++ t)))))
+    (ap (λ t. cite_text first (cite_text second t)) with_args
+    ∙ ap (cite_text first) (cite_before second args rest)
+    ∙ cite_before first (cite_text second args) rest)
+    ∙ regroup (decimal n) (rule_name rule) (decimal e.vars) (cite_text first (cite_text second args))
   where
-    regroup : (a b t : List ℕ) → a ++ (32 ∷ (b ++ (codes " 0" ++ (t ++ rest)))) ≡ (a ++ (32 ∷ (b ++ (codes " 0" ++ t)))) ++ rest
-    regroup a b t = simp append_assoc
+    regroup : (a b c t : List ℕ) → a ++ (32 ∷ (b ++ (32 ∷ (c ++ (t ++ rest))))) ≡ (a ++ (32 ∷ (b ++ (32 ∷ (c ++ t))))) ++ rest
+    regroup a b c t = simp append_assoc
+
+-- the number of the next proof line behind lines
+abbrev pub number_after : ℕ → List Line → ℕ
+number_after n [] = n
+number_after n (l ∷ ls) = number_after (next_number n l) ls
 
 lines_before : (n : ℕ) (ls : List Line) (rest : List ℕ) → lines_text n ls rest ≡ lines_text n ls [] ++ rest
 lines_before n [] rest = refl
@@ -150,17 +161,35 @@ lines_then t₀ t₁ t₂ n m ls ks (Err x) h₁ e h₂ = tt
 abbrev pub trans_words : ℕ → ℕ → List ℕ
 trans_words a b = codes "trans 0 " ++ (decimal a ++ (32 ∷ (decimal b ++ 32 ∷ [])))
 
+zero_text : decimal 0 ≡ 48 ∷ []
+zero_text = decimal_digit 0 (omega arith)
+
+-- a line of a rule without arguments, whose words end in those of no variables and of the citations
+plain_line : (n : ℕ) (rule : Rule) (first second : Option ℕ) (p q : Formula) (middle : List ℕ) → ((rest : List ℕ) → args_text rule rest ≡ rest)
+    → ((rest : List ℕ) → middle ++ rest ≡ rule_name rule ++ (32 ∷ (48 ∷ cite_text first (cite_text second (32 ∷ rest)))))
+    → plain n middle (formula_text p []) (formula_text q []) ≡ line_text n (Step rule first second (entails p q)) []
+plain_line n rule first second p q middle args words =
+    let sides : List ℕ = formula_text p (32 ∷ formula_text q (10 ∷ [])) in
+    ap (λ t. decimal n ++ (32 ∷ (middle ++ t))) (sym (two_sides p q))
+    ∙ ap (λ t. decimal n ++ (32 ∷ t)) (words sides)
+    ∙ ap (λ t. decimal n ++ (32 ∷ (rule_name rule ++ (32 ∷ (48 ∷ cite_text first (cite_text second t)))))) (sym (args (32 ∷ sides)))
+    ∙ ap (λ z. decimal n ++ (32 ∷ (rule_name rule ++ (32 ∷ (z ++ cite_text first (cite_text second (args_text rule (32 ∷ sides)))))))) (sym zero_text)
+
 comm_line : (n : ℕ) (p q : Formula) → plain n (codes "sep-comm 0 ") (formula_text p []) (formula_text q []) ≡ line_text n (Step SepComm None None (entails p q)) []
-comm_line n p q = ap (λ t. decimal n ++ (32 ∷ (codes "sep-comm 0 " ++ t))) (sym (two_sides p q))
+unfolding args_text
+comm_line n p q = plain_line n SepComm None None p q (codes "sep-comm 0 ") (λ rest. refl) (λ rest. refl)
 
 weaken_line : (n : ℕ) (p q : Formula) → plain n (codes "sep-weaken 0 ") (formula_text p []) (formula_text q []) ≡ line_text n (Step SepWeaken None None (entails p q)) []
-weaken_line n p q = ap (λ t. decimal n ++ (32 ∷ (codes "sep-weaken 0 " ++ t))) (sym (two_sides p q))
+unfolding args_text
+weaken_line n p q = plain_line n SepWeaken None None p q (codes "sep-weaken 0 ") (λ rest. refl) (λ rest. refl)
 
 trans_line : (n a b : ℕ) (p q : Formula) → plain n (trans_words a b) (formula_text p []) (formula_text q []) ≡ line_text n (Step Trans (Some a) (Some b) (entails p q)) []
-trans_line n a b p q = ap (λ t. decimal n ++ (32 ∷ (trans_words a b ++ t))) (sym (two_sides p q)) ∙ simp append_assoc
+unfolding args_text
+trans_line n a b p q = plain_line n Trans (Some a) (Some b) p q (trans_words a b) (λ rest. refl) (λ rest. simp append_assoc)
 
 wand_line : (n a : ℕ) (p q : Formula) → plain n (codes "wand-i 0 " ++ (decimal a ++ 32 ∷ [])) (formula_text p []) (formula_text q []) ≡ line_text n (Step WandI (Some a) None (entails p q)) []
-wand_line n a p q = ap (λ t. decimal n ++ (32 ∷ ((codes "wand-i 0 " ++ (decimal a ++ 32 ∷ [])) ++ t))) (sym (two_sides p q)) ∙ simp append_assoc
+unfolding args_text
+wand_line n a p q = plain_line n WandI (Some a) None p q (codes "wand-i 0 " ++ (decimal a ++ 32 ∷ [])) (λ rest. refl) (λ rest. simp append_assoc)
 
 -- one line, of texts that are known
 one_line : (t₀ t₁ middle left right : List ℕ) (n : ℕ) (p q : Formula) (l : Line) (r : Result (Unit {0}) Memory) → plain n middle (formula_text p []) (formula_text q []) ≡ line_text n l [] → left ≡ formula_text p [] → right ≡ formula_text q [] → OnOk r (t₁ ≡ t₀ ++ plain n middle left right) → OnOk r (t₁ ≡ t₀ ++ lines_text n (l ∷ []) [])
@@ -294,9 +323,14 @@ currying_more t₀ t₁ t₂ n (suc i) hs older newer c r some le eo en h₁ h�
     h₁ ∙ ap₂ (λ (xs ys : List Hyp). t₀ ++ lines_text (n + 1) (wand_lines n xs ys c) []) (eo ∙ ap (λ j. take j hs) e) (en ∙ ap (λ j. drop j hs) e) in
     subst Q (sym (left_more n i hs c (omega arith))) (lines_then t₀ t₁ t₂ (n + 1) (n + 1 + 1) (wand_lines n (take i hs) (drop i hs) c) (left_lines (n + 1) i hs c) r first refl (subst P e h₂))
 
+pub nothing_text : text_of [] ≡ codes "mosel-derivation 1\narities\n"
+unfolding items_text
+nothing_text = refl
+
 pub proof_written : (t₀ t₁ t₂ t₃ name : List ℕ) (hs : List Hyp) (d : ℕ) (c : Formula) → d < length hs → t₀ ≡ text_of [] → t₁ ≡ t₀ ++ lines_text 1 (closing (newest_first hs) d c) []
     → t₂ ≡ t₁ ++ lines_text (2 * d + 3 + 1) (left_lines (2 * d + 3) (length hs) hs c) [] → t₃ ≡ t₂ ++ lines_text (2 * d + 3 + length hs) (Qed name (2 * d + 3 + length hs) ∷ []) []
     → t₃ ≡ text_of (proof_of name (newest_first hs) d c)
+unfolding items_text
 proof_written t₀ t₁ t₂ t₃ name hs d c lt h₀ h₁ h₂ h₃ =
     let fs = newest_first hs in
     let size = length_newest hs in

@@ -1,19 +1,24 @@
--- What the program answers: a status and a line, by the words and the input.
-use Rattle.std.specs.Prelude.{◌≡◌, ℕ, ◌<◌, ◌≤◌, List, [], ◌∷◌, ◌++◌, length, codes, Option, Some, None, if◌then◌else◌, ⊤}
+-- What the program answers: a status and a text, by the words and the input.
+use Rattle.std.specs.Prelude.{◌≡◌, ℕ, ◌-◌, ◌<◌, ◌≤◌, ◌^◌, List, [], ◌∷◌, ◌++◌, length, codes, slice_get, Option, Some, None, if◌then◌else◌}
 use Rattle.std.specs.Fmt.{decimal}
 use Rattle.std.specs.Str.{bytes_eq}
 use Rattle.std.specs.String.{string_bytes}
 use Rattle.std.specs.declared.string.String.{String}
 use Rattle.std.specs.declared.alloc.Global.{Global}
 use Rattle.pm_logic.specs.declared.formula.Formula.{Formula}
+use Rattle.pm_logic.specs.declared.formula.Preds.{Preds}
+use Rattle.pm_dtext.specs.Texts.{printed_names}
+use Rattle.pm_check.specs.declared.checked.Statement.{Statement}
+use Rattle.pm_check.specs.declared.fault.CheckFault.{CheckFault}
+use Rattle.pm_check.specs.declared.fault.CheckFault.TheVariants as offence
+use Rattle.pm_check.specs.Derivation.{IsDerivation}
+use Rattle.pm_check.specs.Offence.{FirstOffence}
+use Rattle.pm_check.specs.Answers.{IsTooLong, IfTold}
 use Rattle.pm_top.specs.declared.row.Row.{Row}
 use Rattle.pm_top.specs.Sentence.{Sentence}
 use Rattle.pm_top.specs.Script.{IsSmallScript}
 use Rattle.pm_top.specs.Running.{accepted, refused, RunsTo}
 use Rattle.pm_top.specs.RunTexts.{refusal_line, Derives}
-use Rattle.pm_top.specs.Line.{Line}
-use Rattle.pm_top.specs.Ranges.{IsSmallText}
-use Rattle.pm_top.specs.Derivation.{IsDerivation, FailsFirst, statement_count}
 use Rattle.pm_top.specs.declared.command.Command.{Command}
 use Rattle.pm_top.specs.declared.command.Command.TheVariants.{Check, Run}
 use Rattle.pm_top.specs.declared.status.Status.{Status}
@@ -34,9 +39,36 @@ line_feed = 10 ∷ []
 abbrev pub accepted_line : ℕ → List ℕ
 accepted_line n = codes "accepted: " ++ (decimal n ++ (codes " statements" ++ line_feed))
 
-abbrev pub refused_line : ℕ → List ℕ
-refused_line n = codes "refused: line " ++ (decimal n ++ line_feed)
+abbrev pub text_or_none : Option (List ℕ) → List ℕ
+text_or_none (Some text) = text
+text_or_none None = []
 
+-- the name of a rule by its number, and `qed` for 68
+abbrev pub rule_text : ℕ → List ℕ
+rule_text rule = text_or_none (slice_get printed_names (rule - 1))
+
+-- the line for the first offence of a derivation text
+unfoldable pub offence_line : CheckFault → List ℕ
+offence_line (offence.Syntax at) = codes "unreadable at " ++ (decimal at ++ (codes ": syntax" ++ line_feed))
+offence_line (offence.Refused n unmet) = codes "refused: line " ++ (decimal n ++ (codes ": " ++ (rule_text unmet.rule ++ (codes " condition " ++ (decimal unmet.condition ++ line_feed)))))
+offence_line (offence.NoLine n cited) = codes "refused: line " ++ (decimal n ++ (codes " cites " ++ (decimal cited ++ line_feed)))
+offence_line (offence.Unguarded p) = codes "refused: predicate " ++ (decimal p ++ (codes " is unguarded" ++ line_feed))
+offence_line (offence.Deep at) = codes "unreadable at " ++ (decimal at ++ (codes ": deep" ++ line_feed))
+offence_line offence.Long = codes "too long" ++ line_feed
+offence_line offence.Read = []
+offence_line offence.Memory = []
+
+unfoldable pub offence_status : CheckFault → Status
+offence_status (offence.Syntax at) = status.Unreadable
+offence_status (offence.Refused n unmet) = status.Refused
+offence_status (offence.NoLine n cited) = status.Refused
+offence_status (offence.Unguarded p) = status.Refused
+offence_status (offence.Deep at) = status.Unreadable
+offence_status offence.Long = status.TooLong
+offence_status offence.Read = status.ReadFault
+offence_status offence.Memory = status.Memory
+
+-- the line for what is no small script
 abbrev pub unreadable_line : List ℕ
 unreadable_line = codes "unreadable" ++ line_feed
 
@@ -48,40 +80,37 @@ usage_line = codes "usage: mosel run | check | session | goals | selftest N" ++ 
 
 -- ---- the answers
 
--- the longest input that is judged
+-- what `check` answers to an input, and the line that it writes for it
+pub data Checks (bytes : List ℕ) : Status → List ℕ → Type 0 where
+  accepts : (preds : Preds) (statements : List Statement) → IsDerivation bytes preds statements → Checks bytes status.Done (accepted_line (length statements))
+  refuses : (f : CheckFault) → FirstOffence bytes f → Checks bytes (offence_status f) (offence_line f)
+
+-- the longest script
 abbrev pub limit : ℕ
 limit = 16777216
 
--- what `check` answers to an input, and the line that it writes for it
-pub data Checks (bytes : List ℕ) : Status → List ℕ → Type 0 where
-  accepts : (ls : List Line) → length bytes ≤ limit → IsSmallText bytes ls → IsDerivation ls → Checks bytes status.Done (accepted_line (statement_count ls))
-  refuses : (ls : List Line) (n : ℕ) → length bytes ≤ limit → IsSmallText bytes ls → FailsFirst ls n → Checks bytes status.Refused (refused_line n)
-  unreadable : length bytes ≤ limit → ((ls : List Line) → ¬ IsSmallText bytes ls) → Checks bytes status.Unreadable unreadable_line
-  too_long : limit < length bytes → Checks bytes status.TooLong too_long_line
-
--- what `run` answers to an input, and what it writes for it: a derivation of exactly the script's lemma, no longer than `check` takes, or a line
+-- what `run` answers to an input, and what it writes for it: a derivation of exactly the script's lemma, no longer than a script, or a line
 pub data Runs (bytes : List ℕ) : Status → List ℕ → Type 0 where
-  proves : (ss : List (ℕ × Sentence)) (lemma : Option (List ℕ × Formula)) (text : List ℕ) → length bytes ≤ limit → IsSmallScript bytes ss → RunsTo (length bytes) ss (accepted lemma) → length text ≤ limit → Derives text lemma → Runs bytes status.Done text
-  refuses : (ss : List (ℕ × Sentence)) (sentence offset : ℕ) (row : Row) (name : Option (List ℕ)) → length bytes ≤ limit → IsSmallScript bytes ss → RunsTo (length bytes) ss (refused sentence offset row name) → Runs bytes status.Refused (refusal_line sentence offset row name)
-  unreadable : length bytes ≤ limit → ((ss : List (ℕ × Sentence)) → ¬ IsSmallScript bytes ss) → Runs bytes status.Unreadable unreadable_line
-  too_long : limit < length bytes → Runs bytes status.TooLong too_long_line
+  proves : (ss : List (ℕ × Sentence)) (lemma : Option (List ℕ × Formula)) (text : List ℕ) → IsSmallScript bytes ss → RunsTo (length bytes) ss (accepted lemma) → length text ≤ limit → Derives text lemma → Runs bytes status.Done text
+  refuses : (ss : List (ℕ × Sentence)) (sentence offset : ℕ) (row : Row) (name : Option (List ℕ)) → IsSmallScript bytes ss → RunsTo (length bytes) ss (refused sentence offset row name) → Runs bytes status.Refused (refusal_line sentence offset row name)
+  unreadable : ((ss : List (ℕ × Sentence)) → ¬ IsSmallScript bytes ss) → Runs bytes status.Unreadable unreadable_line
 
 abbrev pub Answers : Command → List ℕ → Status → List ℕ → Type 0
 Answers Check bytes s text = Checks bytes s text
 Answers Run bytes s text = Runs bytes s text
 
--- a fact of the input, where it is told
-abbrev pub IfTold : Option (List ℕ) → (List ℕ → Type 0) → Type 0
-IfTold None P = ⊤
-IfTold (Some bytes) P = P bytes
+-- the longest input that the command answers; more than a check's longest is never held in memory
+abbrev pub longest : Command → ℕ
+longest Check = 2 ^ 63
+longest Run = limit
 
--- what a command answers to some input, which is the one that is told, where it is told
-pub record DefinesAnswer (command : Command) (input : Option (List ℕ)) (s : Status) (text : List ℕ) : Type 0 where
-  pub bytes : List ℕ
-  pub told : IfTold input (λ known. known ≡ bytes)
-  pub answers : Answers command bytes s text
+-- an input that the command gives up on
+abbrev pub IsLong : Command → List ℕ → Type 0
+IsLong Check bytes = IsTooLong bytes
+IsLong Run bytes = limit < length bytes
 
--- the status and the text that the words and the input define
-abbrev pub Defines : Option Command → Option (List ℕ) → Status → List ℕ → Type 0
-Defines None input s text = (s ≡ status.Usage) × (text ≡ usage_line)
-Defines (Some command) input s text = DefinesAnswer command input s text
+-- the status and the text that the words and the input define; the input is some input, where it isn't told
+pub data Defines : Option Command → Option (List ℕ) → Status → List ℕ → Type 0 where
+  usage : (input : Option (List ℕ)) → Defines None input status.Usage usage_line
+  answer : (command : Command) (input : Option (List ℕ)) (bytes : List ℕ) (s : Status) (text : List ℕ) → IfTold input (λ known. known ≡ bytes) → length bytes ≤ longest command → Answers command bytes s text → Defines (Some command) input s text
+  too_long : (command : Command) (input : Option (List ℕ)) → IfTold input (IsLong command) → Defines (Some command) input status.TooLong too_long_line

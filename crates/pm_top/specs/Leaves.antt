@@ -1,5 +1,5 @@
 -- What a run leaves: at the sink by its status, and of the source.
-use Rattle.std.specs.Prelude.{◌≡◌, ◌⊎◌, ℕ, List, [], length, Option, Some, None, IsSome, ⊤}
+use Rattle.std.specs.Prelude.{◌≡◌, ◌⊎◌, ℕ, List, length, Option, Some, IsSome, ⊤}
 use Rattle.std.specs.Io.KnownBytes.{Appends, Keeps}
 use Rattle.pm_io.specs.Taken.{AppendsFront}
 use Rattle.pm_top.specs.declared.command.Command.{Command}
@@ -53,8 +53,3 @@ pub record IsDefined (command : Option Command) (input : Option (List ℕ)) (old
   pub only : (bytes : List ℕ) → input ≡ Some bytes → (s : Status) (text : List ℕ) → Defines command input s text → IsAnswer r → (r ≡ s) × (DefinesText command s → Appends old new text)
   -- a script of which no sentence is refused is answered by success
   pub accepts : (bytes : List ℕ) → input ≡ Some bytes → command ≡ Some Run → (ss : List (ℕ × Sentence)) (lemma : Option (List ℕ × Formula)) → IsSmallScript bytes ss → RunsTo (length bytes) ss (accepted lemma) → IsAnswer r → r ≡ status.Done
-
--- where the source tells, it is at its end
-abbrev pub IsReadToEnd : Option (List ℕ) → Option (List ℕ) → Type 0
-IsReadToEnd None new = ⊤
-IsReadToEnd (Some bytes) new = new ≡ Some []

@@ -1,14 +1,5 @@
-pub mod Line
-pub mod Spelling
 pub mod Small
-pub mod Ranges
-pub mod Reading
-pub mod ReadLine
-pub mod Derivation
 pub mod Truth
-pub mod Names
-pub mod Kept
-pub mod Verdicts
 pub mod Answers
 pub mod Leaves
 pub mod Sentence
@@ -18,7 +9,8 @@ pub mod ScriptReading
 pub mod Running
 pub mod Proving
 pub mod Connectives
-pub mod Statements
+pub mod Signs
+pub mod Offences
 pub mod Runs
 pub mod Written
 pub mod RunTexts

@@ -6,7 +6,8 @@ use Rattle.pm_logic.specs.declared.formula.Pure.TheVariants as pure
 use Rattle.pm_logic.specs.Trees.{Sep, Wand}
 use Rattle.pm_rules.specs.declared.rules.Rule.TheVariants.{Trans, SepComm, SepWeaken, WandI}
 use Rattle.pm_rules.specs.declared.rules.Entail.{Entail}
-use Rattle.pm_top.specs.Line.{Line, Step, Qed}
+use Rattle.pm_dtext.specs.declared.line.Line.{Line}
+use Rattle.pm_dtext.specs.declared.line.Line.TheVariants.{Step, Qed}
 
 -- Hypotheses stand newest first.
 

@@ -1,13 +1,12 @@
 -- What `run` writes: a derivation, or the line of a refusal.
-use Rattle.std.specs.Prelude.{◌≡◌, ℕ, List, [], ◌∷◌, ◌++◌, codes, Option, Some, None}
+use Rattle.std.specs.Prelude.{ℕ, List, [], ◌∷◌, ◌++◌, codes, Option, Some, None}
 use Rattle.std.specs.Fmt.{decimal}
 use Rattle.pm_logic.specs.declared.formula.Formula.{Formula}
 use Rattle.pm_top.specs.declared.row.Row.{Row}
 use Rattle.pm_top.specs.declared.row.Row.TheVariants.{I1, N1, N2, B5, Q1, Q3, Q9}
-use Rattle.pm_top.specs.Line.{Line}
-use Rattle.pm_top.specs.Ranges.{IsSmallText}
-use Rattle.pm_top.specs.Derivation.{IsDerivation}
-use Rattle.pm_top.specs.Statements.{statements_of}
+use Rattle.pm_logic.specs.Scope.{no_predicates}
+use Rattle.pm_check.specs.declared.checked.Statement.{Statement}
+use Rattle.pm_check.specs.Derivation.{IsDerivation}
 
 -- ---- the line of a refusal
 
@@ -31,13 +30,10 @@ refusal_line sentence offset row name = codes "refused: sentence " ++ (decimal s
 -- ---- the derivation
 
 -- the lemma, if there is one, as what a derivation states
-abbrev pub stated : Option (List ℕ × Formula) → List (List ℕ × Option Formula)
+abbrev pub stated : Option (List ℕ × Formula) → List Statement
 stated None = []
-stated (Some lemma) = (lemma.0, Some lemma.1) ∷ []
+stated (Some lemma) = record { name = lemma.0; formula = lemma.1 } ∷ []
 
--- the text is a derivation of these lemmas and nothing else
-pub record Derives (text : List ℕ) (lemma : Option (List ℕ × Formula)) : Type 0 where
-  pub lines : List Line
-  pub spelled : IsSmallText text lines
-  pub follows : IsDerivation lines
-  pub states : statements_of lines ≡ stated lemma
+-- the text is a derivation of these lemmas and nothing else, over no predicates
+abbrev pub Derives : List ℕ → Option (List ℕ × Formula) → Type 0
+Derives text lemma = IsDerivation text no_predicates (stated lemma)

@@ -8,9 +8,8 @@ use Rattle.pm_top.specs.declared.running.Run.TheVariants as run
 use Rattle.pm_top.specs.declared.running.Stop.{Stop}
 use Rattle.pm_top.specs.declared.status.Status.{Status}
 use Rattle.pm_top.specs.declared.status.Status.TheVariants as status
-use Rattle.pm_top.specs.Spelling.{text_of}
 use Rattle.pm_top.specs.Proving.{proof_of}
-use Rattle.pm_top.specs.Written.{newest_first}
+use Rattle.pm_top.specs.Written.{newest_first, text_of}
 use Rattle.pm_top.specs.RunTexts.{refusal_line}
 use Rattle.pm_top.specs.Script.{is_lemma}
 use Rattle.pm_top.specs.Sentence.{Sentence, Lemma, Intros, Exact, Qed}

@@ -8,9 +8,8 @@ use Rattle.pm_logic.specs.declared.formula.Formula.TheVariants.{Pure as Fact, Pt
 use Rattle.pm_logic.specs.declared.formula.TheConstants.{UNIT}
 use Rattle.pm_logic.specs.Trees as tree
 use Rattle.pm_top.specs.declared.script_signs.Sign.TheVariants.{Open, Close, Colon, Star, Wand, PointsTo, Entails, Minus, Stop}
-use Rattle.pm_top.specs.Ranges.{is_name}
 use Rattle.pm_top.specs.Sentence.{Sentence, Lemma, Intros, Exact, Qed}
-use Rattle.pm_top.specs.Tokens.{Token, word, number, quoted, sign, Place, place, tokens_at, number_of, AreTokens}
+use Rattle.pm_top.specs.Tokens.{is_small_name, Token, word, number, quoted, sign, Place, place, tokens_at, number_of, AreTokens}
 
 -- ---- formulas
 
@@ -41,7 +40,7 @@ pub data IsStatement : List Token → Formula → Type 0 where
   entails : {ls rs : List Token} {f g : Formula} → IsFormula Wands ls f → IsFormula Wands rs g → IsStatement (ls ++ (sign Entails ∷ rs)) (tree.Wand f g)
 
 pub data IsSentence : List Token → Sentence → Type 0 where
-  lemma : {n : List ℕ} {ts : List Token} {f : Formula} → IsTrue (is_name n) → IsStatement ts f → IsSentence (word (codes "Lemma") ∷ word n ∷ sign Colon ∷ ts) (Lemma n f)
+  lemma : {n : List ℕ} {ts : List Token} {f : Formula} → IsTrue (is_small_name n) → IsStatement ts f → IsSentence (word (codes "Lemma") ∷ word n ∷ sign Colon ∷ ts) (Lemma n f)
   intros : {n : List ℕ} → IsSentence (word (codes "iIntros") ∷ quoted n ∷ []) (Intros n)
   exact : {n : List ℕ} → IsSentence (word (codes "iExact") ∷ quoted n ∷ []) (Exact n)
   qed : IsSentence (word (codes "Qed") ∷ []) Qed

@@ -18,9 +18,8 @@ use Rattle.pm_top.specs.declared.script_fault.ScriptFault.TheVariants.{Unreadabl
 use Rattle.pm_top.specs.declared.script.ReadSentence.{ReadSentence}
 use Rattle.pm_top.specs.declared.script.ReadSentence.TheVariants as made
 use Rattle.pm_top.specs.declared.script.PlacedSentence.{PlacedSentence}
-use Rattle.pm_top.specs.Ranges.{is_name}
 use Rattle.pm_top.specs.Sentence.{Sentence, Lemma, Intros, Exact, Qed}
-use Rattle.pm_top.specs.Tokens.{Token, word, number, quoted, sign, Place, place, token_at, tokens_at, front, past, number_of}
+use Rattle.pm_top.specs.Tokens.{is_small_name, Token, word, number, quoted, sign, Place, place, token_at, tokens_at, front, past, number_of}
 
 abbrev pub Read : Type 0 → Type 0
 Read A = Option (A × List Token)
@@ -173,7 +172,7 @@ statement ts = formula (length ts) Wands ts >>= λ x. entailed x.0 x.1
 
 -- behind the word
 unfoldable pub lemma_at : List Token → Option Sentence
-lemma_at (word n ∷ ts) = if is_name n then (expect s.Colon ts >>= λ rest. statement rest >>= λ f. Some (Lemma n f)) else None
+lemma_at (word n ∷ ts) = if is_small_name n then (expect s.Colon ts >>= λ rest. statement rest >>= λ f. Some (Lemma n f)) else None
 lemma_at ts = None
 
 unfoldable pub label_at : List Token → Option (List ℕ)

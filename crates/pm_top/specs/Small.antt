@@ -1,5 +1,5 @@
--- The formulas of small texts: truth, points-to, stars and wands over literals that are i64.
-use Rattle.std.specs.Prelude.{◌<◌, ◌≤◌, ◌^◌, ℤ, pos, negsuc}
+-- The formulas of small scripts: truth, points-to, stars and wands over literals that are i64.
+use Rattle.std.specs.Prelude.{◌≤◌}
 use Rattle.pm_logic.specs.declared.formula.Term.{Term}
 use Rattle.pm_logic.specs.declared.formula.Term.TheVariants.{Lit}
 use Rattle.pm_logic.specs.declared.formula.Pure.{Pure}
@@ -8,10 +8,7 @@ use Rattle.pm_logic.specs.declared.formula.Formula.{Formula}
 use Rattle.pm_logic.specs.declared.formula.Formula.TheVariants.{Pure as Fact, Pts}
 use Rattle.pm_logic.specs.declared.formula.TheConstants.{UNIT}
 use Rattle.pm_logic.specs.Trees.{Sep, Wand}
-
-abbrev pub IsI64 : ℤ → Type 0
-IsI64 (pos n) = n < 2 ^ 63
-IsI64 (negsuc n) = n < 2 ^ 63
+use Rattle.pm_dtext.specs.Ranges.{IsI64}
 
 unfoldable pub IsSmallTerm : Term → Type 0
 IsSmallTerm (Lit z) = IsI64 z

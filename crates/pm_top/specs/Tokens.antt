@@ -1,13 +1,13 @@
 -- The tokens of a small script.
-use Rattle.std.specs.Prelude.{◌≡◌, ℕ, ◌-◌, ◌*◌, ◌+◌, Bool, true, ◌&&◌, ◌||◌, not, ◌==◌, eqb, nat_le, if◌then◌else◌, List, [], ◌∷◌, length, take, drop, map, codes, Option, Some, None}
-use Rattle.std.specs.List.{prefix_len, starts_with}
+use Rattle.std.specs.Prelude.{◌≡◌, ℕ, ◌-◌, ◌*◌, ◌+◌, Bool, true, false, ◌&&◌, ◌||◌, not, ◌==◌, eqb, nat_le, if◌then◌else◌, List, [], ◌∷◌, length, take, drop, map, codes, Option, Some, None}
+use Rattle.std.specs.List.{prefix_len, starts_with, list_all}
 use Rattle.std.specs.Str.{bytes_eq}
 use Rattle.pm_top.specs.declared.script_signs.Sign.{Sign}
 use Rattle.pm_top.specs.declared.script_signs.Sign.TheVariants.{Open, Close, Colon, Star, Wand, PointsTo, Entails, Minus, Stop}
 use Rattle.pm_top.specs.declared.tokens.Token.{Token as ReadToken}
 use Rattle.pm_top.specs.declared.tokens.Token.TheVariants as made
 use Rattle.pm_top.specs.declared.tokens.Placed.{Placed}
-use Rattle.pm_top.specs.Ranges.{is_letter, is_name_byte, is_name}
+use Rattle.pm_text.specs.Names.{is_name}
 
 pub data Token : Type 0 where
   word : (letters : List ℕ) → Token
@@ -35,6 +35,18 @@ front p xs = take (prefix_len p xs) xs
 
 abbrev pub past : {X : Type 0} → (X → Bool) → List X → List X
 past p xs = drop (prefix_len p xs) xs
+
+-- the letters of ASCII, and the underscore
+abbrev pub is_letter : ℕ → Bool
+is_letter b = (nat_le 65 b && nat_le b 90) || (nat_le 97 b && nat_le b 122) || b == 95
+
+abbrev pub is_name_byte : ℕ → Bool
+is_name_byte b = is_letter b || (nat_le 48 b && nat_le b 57) || b == 39
+
+-- a name of ASCII
+abbrev pub is_small_name : List ℕ → Bool
+is_small_name [] = false
+is_small_name (b ∷ bs) = is_letter b && list_all is_name_byte bs && is_name (b ∷ bs)
 
 -- space, tab, CR and LF
 abbrev pub is_blank : ℕ → Bool
@@ -103,7 +115,7 @@ stop_at bytes = if ends bytes then Some (sign Stop, bytes) else None
 
 -- a name that isn't `_` alone
 abbrev pub is_label : List ℕ → Bool
-is_label w = is_name w && not (bytes_eq w (codes "_"))
+is_label w = is_small_name w && not (bytes_eq w (codes "_"))
 
 -- behind the word between two quotes, and the blanks that follow it
 unfoldable pub closed_at : List ℕ → List ℕ → Option (Token × List ℕ)

@@ -1,53 +1,90 @@
 //! The answer to an input.
 
 ghost use Rattle.std.specs.Prelude.{◌≡◌, ◌≤◌, length, IfOk};
-ghost use Rattle.pm_top.specs.Answers.{accepted_line, refused_line, unreadable_line, Checks, Runs, Answers};
+ghost use Rattle.pm_top.specs.Answers.{accepted_line, offence_line, unreadable_line, Runs};
+ghost use Rattle.pm_top.specs.Offences.{IsNamed, NamesRule, Tells};
 ghost use Rattle.pm_top.specs.RunTexts.{row_text, name_text, refusal_line};
 ghost use Rattle.pm_top.specs.Runs.{IsProof, RunAnswer, lemma_name};
 ghost use Rattle.pm_top.specs.ScriptReading.{sentences_of};
 
-use crate::command::Command;
-use crate::judge::{Verdict, judge};
 use crate::row::Row;
 use crate::running::{Run, run_sentences};
 use crate::script::{PlacedSentence, ReadSentence, read_script};
 use crate::script_fault::ScriptFault;
 use crate::status::Status;
 use crate::writer::{write_nothing, write_proof};
+use pm_check::CheckFault;
+use pm_dtext::rule_name;
 use pm_logic::{Bytes, Memory, Name};
+use pm_rules::Unmet;
 use std::alloc::Global;
 
-fn accepted(alloc: Global, count: usize) -> Result<Bytes, Memory>
+/// The line of a derivation text that is accepted, with so many statements.
+pub fn accepted(alloc: Global, count: usize) -> Result<Bytes, Memory>
     ensures { IfOk result (λ text. text ≡ accepted_line count) }
 {
     let line = format!(in alloc; "accepted: {count} statements\n")?;
     Bytes::from_slice(alloc, line.as_bytes())
 }
 
-fn refused(alloc: Global, line: u64) -> Result<Bytes, Memory>
-    ensures { IfOk result (λ text. text ≡ refused_line line) }
+/// The line of a proof line or statement that doesn't follow.
+#[tactic(auto, using(crate::proofs::Offences::named), unfolding(crate::specs::Answers::offence_line))]
+fn refused(alloc: Global, line: u64, unmet: Unmet) -> Result<Bytes, Memory>
+    requires { IsNamed unmet.rule }
+    ensures { IfOk result (λ text. text ≡ offence_line (CheckFault.Refused line unmet)) }
 {
-    let line = format!(in alloc; "refused: line {line}\n")?;
-    Bytes::from_slice(alloc, line.as_bytes())
+    let name = rule_name(unmet.rule);
+    let condition = unmet.condition;
+    let text = format!(in alloc; "refused: line {line}: {name} condition {condition}\n")?;
+    Bytes::from_slice(alloc, text.as_bytes())
 }
 
+/// The line of a fault that has no rule.
+#[tactic(auto, unfolding(crate::specs::Answers::offence_line))]
+fn fault_line(alloc: Global, fault: CheckFault) -> Result<Bytes, Memory>
+    requires { NamesRule fault }
+    ensures { IfOk result (λ text. text ≡ offence_line fault) }
+{
+    let text = match fault {
+        CheckFault::Syntax(at) => format!(in alloc; "unreadable at {at}: syntax\n")?,
+        CheckFault::Deep(at) => format!(in alloc; "unreadable at {at}: deep\n")?,
+        CheckFault::Refused { line, unmet } => return refused(alloc, line, unmet),
+        CheckFault::NoLine { line, cited } => {
+            format!(in alloc; "refused: line {line} cites {cited}\n")?
+        }
+        CheckFault::Unguarded(p) => { format!(in alloc; "refused: predicate {p} is unguarded\n")? }
+        CheckFault::Long => return Bytes::from_slice(alloc, b"too long\n"),
+        CheckFault::Read | CheckFault::Memory => return Ok(Bytes::new(alloc)),
+    };
+    Bytes::from_slice(alloc, text.as_bytes())
+}
+
+/// What `check` answers to a fault, and the line that it writes for it; the error is the status where nothing is written.
+#[tactic(auto, unfolding(crate::specs::Answers::offence_status, crate::specs::Offences::IsTold))]
+pub fn offence(alloc: Global, fault: CheckFault) -> Result<(Status, Bytes), Status>
+    requires { NamesRule fault }
+    ensures { Tells fault result }
+{
+    let Ok(line) = fault_line(alloc, fault) else {
+        return Err(Status::Memory);
+    };
+    match fault {
+        CheckFault::Syntax(_) => Ok((Status::Unreadable, line)),
+        CheckFault::Deep(_) => Ok((Status::Unreadable, line)),
+        CheckFault::Refused { .. } => Ok((Status::Refused, line)),
+        CheckFault::NoLine { .. } => Ok((Status::Refused, line)),
+        CheckFault::Unguarded(_) => Ok((Status::Refused, line)),
+        CheckFault::Long => Ok((Status::TooLong, line)),
+        CheckFault::Read => Err(Status::ReadFault),
+        CheckFault::Memory => Err(Status::Memory),
+    }
+}
+
+/// The line for what is no small script.
 fn unreadable(alloc: Global) -> Result<Bytes, Memory>
     ensures { IfOk result (λ text. text ≡ unreadable_line) }
 {
     Bytes::from_slice(alloc, b"unreadable\n")
-}
-
-/// What `check` answers.
-#[tactic(auto, using(crate::proofs::Answering::accepted, crate::proofs::Answering::refused, crate::proofs::Answering::unreadable_text))]
-fn check(alloc: Global, bytes: &[u8]) -> Result<(Status, Bytes), Memory>
-    requires { length bytes.now ≤ 16777216 }
-    ensures { IfOk result (λ x. Checks bytes.now x.0 x.1) }
-{
-    match judge(alloc, bytes)? {
-        Verdict::Accepted(count) => Ok((Status::Done, accepted(alloc, count)?)),
-        Verdict::Refused(line) => Ok((Status::Refused, refused(alloc, line)?)),
-        Verdict::Unreadable => Ok((Status::Unreadable, unreadable(alloc)?)),
-    }
 }
 
 fn row_text(row: Row) -> &'static str
@@ -138,9 +175,9 @@ fn run_answer(
     }
 }
 
-/// What `run` answers.
+/// What `run` answers to an input within its limit, and what it writes for it.
 #[tactic(auto, using(crate::proofs::RunAnswers::unreadable_script))]
-fn run(alloc: Global, bytes: &[u8]) -> Result<(Status, Bytes), Memory>
+pub fn run(alloc: Global, bytes: &[u8]) -> Result<(Status, Bytes), Memory>
     requires { length bytes.now ≤ 16777216 }
     ensures { IfOk result (λ x. Runs bytes.now x.0 x.1) }
 {
@@ -152,15 +189,4 @@ fn run(alloc: Global, bytes: &[u8]) -> Result<(Status, Bytes), Memory>
     let sentences = script.sentences.as_slice();
     let run = run_sentences(alloc, sentences, bytes.len() as u64)?;
     run_answer(alloc, sentences, run)
-}
-
-/// What a command answers to an input within its limit, and the text that it writes for it.
-pub fn answer(alloc: Global, command: Command, bytes: &[u8]) -> Result<(Status, Bytes), Memory>
-    requires { length bytes.now ≤ 16777216 }
-    ensures { IfOk result (λ x. Answers command bytes.now x.0 x.1) }
-{
-    match command {
-        Command::Check => check(alloc, bytes),
-        Command::Run => run(alloc, bytes),
-    }
 }

@@ -1,14 +1,8 @@
-//! All that the program does: its commands over sources and sinks, and the checker of derivation texts.
+//! All that the program does: its commands over sources and sinks, and what `run` does with scripts.
 #![tactic(auto)]
 
 mod answer;
-mod checker;
 mod command;
-mod fault;
-mod formulas;
-mod judge;
-mod laws;
-mod lines;
 mod program;
 mod row;
 mod running;
@@ -22,7 +16,6 @@ mod tokens;
 mod words;
 mod writer;
 
-pub use laws::{derivations_are_true, rules_are_true};
 pub use pm_io::{
     Failed, MemSink, MemSource, SendFault, Sink, Source, StdSink, StdSource, SureSource, TakeFault,
     read_all, write_all,
@@ -30,6 +23,8 @@ pub use pm_io::{
 pub use program::top;
 pub use status::Status;
 
+#[cfg(test)]
+mod rule_tests;
 #[cfg(test)]
 mod run_tests;
 #[cfg(test)]

@@ -4,13 +4,15 @@ ghost use Rattle.std.specs.Prelude.{◌≡◌, Some, None};
 ghost use Rattle.std.specs.Io.KnownBytes.{Appends};
 ghost use Rattle.pm_io.specs.Causes.{Faulted};
 ghost use Rattle.pm_io.specs.Taken.{AppendsFront};
-ghost use Rattle.pm_top.specs.Answers.{command_of, IfTold};
+ghost use Rattle.pm_check.specs.Answers.{IfTold, IsReadToEnd};
+ghost use Rattle.pm_top.specs.Answers.{command_of};
 ghost use Rattle.pm_top.specs.Truth.{SaysTrue};
-ghost use Rattle.pm_top.specs.Leaves.{IsAnswer, Leaves, IsDefined, IsReadToEnd};
+ghost use Rattle.pm_top.specs.Leaves.{IsAnswer, Leaves, IsDefined};
 
-use crate::answer::answer;
+use crate::answer::{accepted, offence, run};
 use crate::command::{Command, command_of};
 use crate::status::Status;
+use pm_check::check;
 use pm_io::{SendFault, Sink, Source, TakeFault, read_all, write_all};
 use std::alloc::Global;
 
@@ -29,15 +31,30 @@ fn say<K: Sink>(sink: &mut K, status: Status, text: &[u8]) -> Status
     }
 }
 
-/// Does what a command asks for.
-#[tactic(auto, using(crate::proofs::Leaving::leaves, crate::proofs::Leaving::defines_long, crate::proofs::Leaving::defines_answer))]
-fn run_command<S: Source, K: Sink>(
-    alloc: Global,
-    command: Command,
-    source: &mut S,
-    sink: &mut K,
-) -> Status
-    ensures output { Leaves (Some command) (S.left source.old) (K.written sink.old) (K.written sink.new) result }
+/// Does what `check` asks for.
+#[tactic(auto, using(crate::proofs::Leaving::leaves, crate::proofs::Offences::told_answers, crate::proofs::Offences::defines_told))]
+fn check_command<S: Source, K: Sink>(alloc: Global, source: &mut S, sink: &mut K) -> Status
+    ensures output { Leaves (Some Command.Check) (S.left source.old) (K.written sink.old) (K.written sink.new) result }
+    ensures end { result ≡ Status.Done → IsReadToEnd (S.left source.old) (S.left source.new) }
+    ensures read { Faulted (result ≡ Status.ReadFault) (S.faults source.old) (S.faults source.new) }
+    ensures write { Faulted (result ≡ Status.WriteFault) (K.faults sink.old) (K.faults sink.new) }
+{
+    match check(alloc, source) {
+        Ok(checked) => match accepted(alloc, checked.statements.len()) {
+            Ok(text) => say(sink, Status::Done, text.as_slice()),
+            Err(_) => Status::Memory,
+        },
+        Err(fault) => match offence(alloc, fault) {
+            Ok((status, line)) => say(sink, status, line.as_slice()),
+            Err(status) => status,
+        },
+    }
+}
+
+/// Does what `run` asks for.
+#[tactic(auto, using(crate::proofs::Leaving::leaves, crate::proofs::Leaving::defines_long, crate::proofs::Leaving::defines_run))]
+fn run_command<S: Source, K: Sink>(alloc: Global, source: &mut S, sink: &mut K) -> Status
+    ensures output { Leaves (Some Command.Run) (S.left source.old) (K.written sink.old) (K.written sink.new) result }
     ensures end { result ≡ Status.Done → IsReadToEnd (S.left source.old) (S.left source.new) }
     ensures read { Faulted (result ≡ Status.ReadFault) (S.faults source.old) (S.faults source.new) }
     ensures write { Faulted (result ≡ Status.WriteFault) (K.faults sink.old) (K.faults sink.new) }
@@ -48,7 +65,7 @@ fn run_command<S: Source, K: Sink>(
         Err(TakeFault::Long) => return say(sink, Status::TooLong, b"too long\n"),
         Err(TakeFault::Memory) => return Status::Memory,
     };
-    match answer(alloc, command, bytes.as_slice()) {
+    match run(alloc, bytes.as_slice()) {
         Ok((status, text)) => say(sink, status, text.as_slice()),
         Err(_) => Status::Memory,
     }
@@ -57,9 +74,9 @@ fn run_command<S: Source, K: Sink>(
 /// Does all that the program does. `words` are the words of the command line after the program's name; `source` is read
 /// and `sink` written. The answer is the status that the program ends with, and what was written then is the whole line
 /// of that status, or for `run` and `Done` a derivation of the script's lemma. `Done` says that the input was read to its
-/// end and, for `check`, that each line of it is true. Where the words name no command nothing is read. After
-/// `WriteFault` and `Memory` a front of a text that answers the words and the input was written, or nothing, and after
-/// `ReadFault` nothing.
+/// end and that each of its statements is true: for `check` those of the derivation, whoever wrote it, for `run` the
+/// script's lemma. Where the words name no command nothing is read. After `WriteFault` and `Memory` a front of a text that
+/// answers the words and the input was written, or nothing, and after `ReadFault` nothing.
 pub fn top<S: Source, K: Sink>(
     alloc: Global,
     words: &Vec<String>,
@@ -85,6 +102,7 @@ pub fn top<S: Source, K: Sink>(
             let usage = b"usage: mosel run | check | session | goals | selftest N\n";
             say(sink, Status::Usage, usage)
         }
-        Some(command) => run_command(alloc, command, source, sink),
+        Some(Command::Check) => check_command(alloc, source, sink),
+        Some(Command::Run) => run_command(alloc, source, sink),
     }
 }

@@ -11,7 +11,7 @@ use crate::script_fault::ScriptFault;
 use crate::script_formula::{Level, expect, formula, is_sign};
 use crate::script_signs::Sign;
 use crate::tokens::{Placed, Token, tokens};
-use crate::words::{is_name, is_text};
+use crate::words::{is_small_name, is_text};
 use pm_logic::{Formula, List};
 use sqlite_items::Boxed;
 use std::alloc::Global;
@@ -88,7 +88,7 @@ fn lemma<'a>(alloc: Global, tokens: &[Placed<'a>]) -> Result<ReadSentence<'a>, S
     let Token::Word(name) = first.token else {
         return Err(ScriptFault::Unreadable);
     };
-    if !is_name(name) {
+    if !is_small_name(name) {
         return Err(ScriptFault::Unreadable);
     }
     let Some(rest) = expect(Sign::Colon, rest) else {

@@ -59,7 +59,12 @@ fn derivations(rt: HostRuntime) -> Result<(), Fail> {
         (
             "1 sep-weaken 0 sep pure T pts 1 5 2 pts 1 5 2\n",
             Status::Refused,
-            "refused: line 1\n",
+            "refused: line 1: sep-weaken condition 4\n",
+        ),
+        (
+            "1 sep-comm 0 sep pure T pure F sep pure T pure F\n",
+            Status::Refused,
+            "refused: line 1: sep-comm condition 4\n",
         ),
         (
             "1 sep-weaken 0 sep pts -1 5 2 pure T pts -1 5 2\n2 true 0 pts -1 5 2 pure T\n3 trans 0 1 2 sep pts -1 5 2 pure T pure T\n4 sep-mono 0 3 2 sep sep pts -1 5 2 pure T pts -1 5 2 sep pure T pure T\n",
@@ -69,27 +74,42 @@ fn derivations(rt: HostRuntime) -> Result<(), Fail> {
         (
             "1 trans 0 1 1 pure T pure T\n",
             Status::Refused,
-            "refused: line 1\n",
+            "refused: line 1 cites 1\n",
+        ),
+        (
+            "1 trans 0 2 2 pure T pure T\n",
+            Status::Refused,
+            "refused: line 1 cites 2\n",
         ),
         (
             "1 trans 0 0 2 pure T pure T\n",
             Status::Refused,
-            "refused: line 1\n",
+            "refused: line 1 cites 0\n",
         ),
         (
             "1 refl 0 pure T pure T\nqed t 2\n",
             Status::Refused,
-            "refused: line 1\n",
+            "refused: line 1 cites 2\n",
         ),
         (
-            "1 refl 0 pure T pure T\nqed t 1\nqed t 1\n2 true 0 pure T pure T\n",
+            "qed \u{e4} 1\n",
             Status::Refused,
-            "refused: line 1\n",
+            "refused: line 0 cites 1\n",
+        ),
+        (
+            "1 refl 1 pure T pure T\nqed t 1\n",
+            Status::Refused,
+            "refused: line 1: qed condition 1\n",
         ),
         (
             "1 refl 0 pts 1 1 1 pts 1 1 1\nqed t 1\n",
             Status::Refused,
-            "refused: line 1\n",
+            "refused: line 1: qed condition 2\n",
+        ),
+        (
+            "1 refl 0 pure T pure T\nqed t 1\nqed t 1\n2 true 0 pure T pure T\n",
+            Status::Refused,
+            "refused: line 1: qed condition 3\n",
         ),
     ];
     for (body, status, line) in rows {
@@ -100,44 +120,103 @@ fn derivations(rt: HostRuntime) -> Result<(), Fail> {
 }
 
 #[test]
-fn unreadable(rt: HostRuntime) -> Result<(), Fail> {
+fn predicates(rt: HostRuntime) -> Result<(), Fail> {
     let rows = [
-        "1 refl 0 pure T pure T\nqed t 1",
-        "1 sep-weaken 0 pure T pure T\nqed\n",
-        "2 refl 0 pure T pure T\n",
-        "01 refl 0 pure T pure T\n",
-        "1 refl 1 pure T pure T\n",
-        "1 refl 0 pts 1 0 1 pure T\n",
-        "1 refl 0 pts 1 720721 1 pure T\n",
-        "1 refl 0 pts -0 1 1 pure T\n",
-        "1 refl 0 pts 9223372036854775808 1 1 pure T\n",
-        "1 refl 0 pts 1 01 1 pure T\n",
-        "1 trans 0 1 18446744073709551616 pure T pure T\n",
-        "1 refl 0 pure  T pure T\n",
-        "1 refl 0 pure T pure T \n",
-        "1 refl 0 pure T pure T\r\n",
-        "qed emp 1\n",
-        "qed 1a 1\n",
-        "qed \u{e4} 1\n",
-        "\n",
-    ];
-    for body in rows {
-        let text = format!(in rt.alloc(); "{HEADER}{body}")?;
-        checks(
-            &rt,
-            rt.alloc(),
-            text.as_bytes(),
+        (
+            "arities 0\npred p imp call 0 pure F\n",
+            Status::Refused,
+            "refused: predicate 0 is unguarded\n",
+        ),
+        (
+            "arities 0 0\npred p later call 1\npred q call 0\n1 fold 0 call 0 call 1\n",
+            Status::Done,
+            "accepted: 0 statements\n",
+        ),
+        (
+            "arities 0 0\npred p call 1\npred q pure T\n",
+            Status::Refused,
+            "refused: predicate 0 is unguarded\n",
+        ),
+        (
+            "arities 0 0\npred p pure T\npred p pure T\n",
             Status::Unreadable,
-            "unreadable\n",
-        )?;
-    }
-    for text in [b"".as_slice(), b"\xff", b"mosel-derivation 2\narities\n"] {
-        checks(&rt, rt.alloc(), text, Status::Unreadable, "unreadable\n")?;
+            "unreadable at 50: syntax\n",
+        ),
+        (
+            "arities 65\n",
+            Status::Unreadable,
+            "unreadable at 27: syntax\n",
+        ),
+    ];
+    for (body, status, line) in rows {
+        let text = format!(in rt.alloc(); "mosel-derivation 1\n{body}")?;
+        checks(&rt, rt.alloc(), text.as_bytes(), status, line)?;
     }
     Ok(())
 }
 
-/// Each proper front of a derivation is one exactly where it ends with a line behind the first two.
+/// That a text is unreadable at this offset.
+fn unreadable_at(
+    rt: &impl Abort,
+    alloc: Global,
+    text: &[u8],
+    at: u64,
+    kind: &str,
+) -> Result<(), Memory> {
+    let line = format!(in alloc; "unreadable at {at}: {kind}\n")?;
+    checks(rt, alloc, text, Status::Unreadable, line.as_str())
+}
+
+#[test]
+fn unreadable(rt: HostRuntime) -> Result<(), Fail> {
+    let rows = [
+        ("1 refl 0 pure T pure T\nqed t 1", 57),
+        ("1 refl 0 pure T pure T\nqed\n", 53),
+        ("2 refl 0 pure T pure T\n", 27),
+        ("01 refl 0 pure T pure T\n", 27),
+        ("1 refl 1001 pure T pure T\n", 34),
+        ("1 refl 0 pure eq v0 0 pure T\n", 44),
+        ("1 refl 0 call 0 pure T\n", 41),
+        ("1 refl 0 pts 1 0 1 pure T\n", 42),
+        ("1 refl 0 pts 1 720721 1 pure T\n", 42),
+        ("1 refl 0 pts -0 1 1 pure T\n", 40),
+        ("1 refl 0 pts 9223372036854775808 1 1 pure T\n", 40),
+        ("1 refl 0 pts 1 01 1 pure T\n", 42),
+        (
+            "1 refl 0 pure T pure T\n2 trans 0 1 18446744073709551616 pure T pure T\n",
+            62,
+        ),
+        ("1 refl 0 pure  T pure T\n", 41),
+        ("1 refl 0 pure T pure T \n", 49),
+        ("1 refl 0 pure T pure T\r\n", 48),
+        ("qed emp 1\n", 31),
+        ("qed 1a 1\n", 31),
+        ("\n", 27),
+    ];
+    for (body, at) in rows {
+        let text = format!(in rt.alloc(); "{HEADER}{body}")?;
+        unreadable_at(&rt, rt.alloc(), text.as_bytes(), at, "syntax")?;
+    }
+    unreadable_at(&rt, rt.alloc(), b"", 0, "syntax")?;
+    unreadable_at(&rt, rt.alloc(), b"\xff", 0, "syntax")?;
+    unreadable_at(
+        &rt,
+        rt.alloc(),
+        b"mosel-derivation 2\narities\n",
+        17,
+        "syntax",
+    )?;
+    Ok(())
+}
+
+/// Where a front of the text of 58 bytes is faulty, by its length: a word that is cut off is judged as it stands. Those
+/// of 27 and 50 bytes are derivations.
+static CUTS: [u64; 58] = [
+    0, 0, 0, 0, 0, 0, 0, 0, 0, 0, 0, 0, 0, 0, 0, 0, 16, 17, 18, 19, 19, 19, 19, 19, 19, 19, 26, 0,
+    28, 29, 29, 29, 29, 33, 34, 35, 36, 36, 36, 36, 40, 41, 42, 43, 43, 43, 43, 47, 48, 49, 0, 50,
+    50, 53, 54, 55, 56, 57,
+];
+
 #[test]
 fn cut_anywhere(rt: HostRuntime) -> Result<(), Fail> {
     let text = format!(in rt.alloc(); "{HEADER}1 refl 0 pure T pure T\nqed t 1\n")?;
@@ -145,13 +224,17 @@ fn cut_anywhere(rt: HostRuntime) -> Result<(), Fail> {
     assert_eq!(rt; bytes.len(), 58);
     for end in 0..58usize {
         let front = &bytes[..end];
-        let whole = end >= 27 && front.ends_with(b"\n");
-        let (status, line) = if whole {
-            (Status::Done, "accepted: 0 statements\n")
+        if end == 27 || end == 50 {
+            checks(
+                &rt,
+                rt.alloc(),
+                front,
+                Status::Done,
+                "accepted: 0 statements\n",
+            )?;
         } else {
-            (Status::Unreadable, "unreadable\n")
-        };
-        checks(&rt, rt.alloc(), front, status, line)?;
+            unreadable_at(&rt, rt.alloc(), front, CUTS[end], "syntax")?;
+        }
     }
     Ok(())
 }
@@ -180,7 +263,7 @@ fn stars(alloc: Global, count: usize) -> Result<String, Memory> {
 fn deep(rt: HostRuntime) -> Result<(), Fail> {
     let rows = [
         (998, Status::Done, "accepted: 0 statements\n"),
-        (999, Status::Unreadable, "unreadable\n"),
+        (999, Status::Unreadable, "unreadable at 4037: deep\n"),
     ];
     for (count, status, line) in rows {
         let text = stars(rt.alloc(), count)?;
@@ -200,14 +283,14 @@ fn a_long_name(rt: HostRuntime) -> Result<(), Fail> {
 }
 
 #[test]
-fn the_longest_input(rt: HostRuntime) -> Result<(), Fail> {
+fn the_longest_script(rt: HostRuntime) -> Result<(), Fail> {
     let rows = [
         (16_777_216, Status::Unreadable, "unreadable\n"),
         (16_777_217, Status::TooLong, "too long\n"),
     ];
     for (length, status, line) in rows {
         let text = vec![in rt.alloc(); b'a'; length]?;
-        checks(&rt, rt.alloc(), &text, status, line)?;
+        answers(&rt, rt.alloc(), "run", &text, status, line)?;
     }
     Ok(())
 }

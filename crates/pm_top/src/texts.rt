@@ -3,7 +3,8 @@
 ghost use Rattle.std.specs.Prelude.{◌≡◌, [], ◌++◌, codes, OnOk, IfOk};
 ghost use Rattle.std.specs.String.{string_bytes};
 ghost use Rattle.std.specs.Fmt.{decimal, signed_decimal};
-ghost use Rattle.pm_top.specs.Spelling.{term_sign, pure_sign, formula_sign, term_text, pure_text, args_text, formula_text};
+ghost use Rattle.pm_dtext.specs.Spelling.{term_text, pure_text, items_text, formula_text};
+ghost use Rattle.pm_top.specs.Signs.{term_sign, pure_sign, formula_sign};
 
 use pm_logic::{Bytes, Formula, Memory, Pure, Term};
 use std::alloc::Global;
@@ -115,7 +116,7 @@ fn put_term(alloc: Global, out: &mut Bytes, t: &Term) -> Result<(), Memory>
 
 /// The arguments of a call, each behind a blank.
 fn put_args(alloc: Global, out: &mut Bytes, ts: &[Term]) -> Result<(), Memory>
-    ensures { OnOk result (out.new ≡ out.old ++ args_text ts.now []) }
+    ensures { OnOk result (out.new ≡ out.old ++ items_text term_text ts.now []) }
 {
     match ts {
         [] => Ok(()),

@@ -2,13 +2,12 @@
 
 ghost use Rattle.std.specs.Prelude.{◌≡◌, ◌≤◌, length};
 ghost use Rattle.std.specs.List.{prefix_len};
-ghost use Rattle.pm_top.specs.Ranges.{is_name_byte};
 ghost use Rattle.pm_top.specs.ScriptReading.{Reads, Finds};
-ghost use Rattle.pm_top.specs.Tokens.{AreTokens, front, past, is_blank, is_digit, is_label, ends, stop_at, closed_at, quoted_at, sign_at, sign_token, first_token, token_of, places};
+ghost use Rattle.pm_top.specs.Tokens.{is_name_byte, AreTokens, front, past, is_blank, is_digit, is_label, ends, stop_at, closed_at, quoted_at, sign_at, sign_token, first_token, token_of, places};
 
 use crate::script_fault::ScriptFault;
 use crate::script_signs::{Sign, sign_at};
-use crate::words::{is_letter, is_name, is_name_byte, is_text};
+use crate::words::{is_letter, is_name_byte, is_small_name, is_text};
 use pm_logic::List;
 use std::alloc::Global;
 
@@ -89,7 +88,7 @@ fn past_blanks(bytes: &[u8]) -> &[u8]
 fn is_label(word: &[u8]) -> bool
     ensures { result ≡ is_label word.now }
 {
-    is_name(word) && !is_text(word, "_")
+    is_small_name(word) && !is_text(word, "_")
 }
 
 /// Behind the word between two quotes, and the blanks that follow it.

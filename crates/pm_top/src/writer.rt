@@ -5,10 +5,10 @@ ghost use Rattle.std.specs.String.{string_bytes};
 ghost use Rattle.std.specs.Fmt.{decimal};
 ghost use Rattle.pm_logic.specs.Trees.{Sep};
 ghost use Rattle.pm_rules.specs.declared.rules.Rule.{Rule};
-ghost use Rattle.pm_top.specs.Line.{Step, Qed};
-ghost use Rattle.pm_top.specs.Spelling.{formula_text, lines_text, text_of};
+ghost use Rattle.pm_dtext.specs.declared.line.Line.TheVariants.{Step, Qed};
+ghost use Rattle.pm_dtext.specs.Spelling.{formula_text};
 ghost use Rattle.pm_top.specs.Proving.{star_of, wands, entails, closing, currying, proof_of};
-ghost use Rattle.pm_top.specs.Written.{newest_first};
+ghost use Rattle.pm_top.specs.Written.{newest_first, lines_text, text_of};
 
 use crate::texts::{put, put_formula};
 use pm_goal::Hyp;
@@ -266,6 +266,7 @@ fn put_qed(alloc: Global, out: &mut Bytes, name: &[u8], cited: u64) -> Result<()
 }
 
 /// The text of no lines.
+#[tactic(auto, using(crate::proofs::Writing::nothing_text))]
 pub fn write_nothing(alloc: Global) -> Result<Bytes, Memory>
     ensures { IfOk result (λ text. text ≡ text_of []) }
 {

@@ -9,4 +9,4 @@ use Rattle.pm_top.proofs.answer.run.Goals as goal
 pub returns : goal.returns
 returns c =
     let small = subst (λ (ss : List (ℕ × Sentence)). IsSmallScript c.args.bytes.now ss) (ap sentences_of (sym c.as_slice-sentences.ensures)) c.in-Ok.ensures in
-    if_ok c.run_answer.result _ _ c.run_answer.ensures (λ x a. answered c.args.bytes.now _ _ x c.requires small c.in_ok-run.ensures a)
+    if_ok c.run_answer.result _ _ c.run_answer.ensures (λ x a. answered c.args.bytes.now _ _ x small c.in_ok-run.ensures a)

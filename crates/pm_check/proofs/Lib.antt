@@ -1,0 +1,14 @@
+pub mod Growing
+pub mod Ready
+pub mod Tables
+pub mod Keeping
+pub mod Longer
+pub mod Lines
+pub mod NameSets
+pub mod Told
+pub mod OneCondition
+pub mod OneEnd
+pub mod OneTable
+pub mod OneVerdict
+pub mod Truth
+pub mod Verdicts

@@ -1,0 +1,9 @@
+pub mod Fronts
+pub mod Lines
+pub mod Table
+pub mod Derivation
+pub mod Offence
+pub mod Answers
+pub mod Kept
+pub mod Laws
+pub mod Truth

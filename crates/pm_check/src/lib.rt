@@ -1,0 +1,20 @@
+//! The checker: whether a text is a derivation, and what it states.
+#![tactic(auto)]
+
+mod checked;
+mod fault;
+mod judging;
+mod kept;
+mod laws;
+mod reading;
+mod table;
+#[cfg(test)]
+mod tests;
+
+pub use checked::{Checked, Statement};
+pub use fault::CheckFault;
+pub use judging::check_bytes;
+pub use laws::{
+    derivations_are_true, nothing_absurd_is_derived, proof_lines_are_true, verdicts_are_one,
+};
+pub use reading::check;

@@ -1,0 +1,5 @@
+pub mod Spelling
+pub mod Ranges
+pub mod Reading
+pub mod Texts
+pub mod Laws

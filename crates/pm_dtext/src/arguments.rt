@@ -1,0 +1,96 @@
+//! What a rule takes besides its premises and its conclusion.
+
+ghost use Rattle.std.specs.Prelude.{◌≡◌, ◌≤◌, length};
+ghost use Rattle.pm_dtext.specs.Texts.{Gives, told};
+ghost use Rattle.pm_dtext.specs.Reading.{part_at, pair_at, items_at, list_at, says_at, literal_of, term_at, args_at};
+
+use crate::arities::Arities;
+use crate::fault::ReadFault;
+use crate::formulas::formula;
+use crate::signs::RuleSign;
+use crate::terms::{term, terms};
+use crate::words::{factor, skip, up_to};
+use pm_logic::{List, Term};
+use pm_rules::Rule;
+use std::alloc::Global;
+
+/// So many factors, each behind a blank.
+#[tactic(auto, using(crate::proofs::Items::items_begun, crate::proofs::Items::items_turned, crate::proofs::Items::items_failed, crate::proofs::Items::items_ended))]
+fn factors(alloc: Global, count: u32, bytes: &[u8]) -> Result<(List<i64>, &[u8]), ReadFault>
+    ensures { Gives (λ x. (x.0, x.1.now)) result (items_at (says_at literal_of) count bytes.now) }
+{
+    let mut factors = List::new(alloc);
+    let mut rest = bytes;
+    for _i in 0..count {
+        let (z, behind) = factor(rest)?;
+        factors.push(z)?;
+        rest = behind;
+    }
+    Ok((factors, rest))
+}
+
+/// A list of factors behind a blank and their number.
+#[tactic(auto, unfolding(crate::specs::Reading::part_at, crate::specs::Reading::list_at))]
+fn counted_factors(alloc: Global, bytes: &[u8]) -> Result<(List<i64>, &[u8]), ReadFault>
+    ensures { Gives (λ x. (x.0, x.1.now)) result (part_at (list_at 66 (says_at literal_of)) bytes.now) }
+{
+    let (count, rest) = up_to(66, skip(b' ', bytes)?)?;
+    factors(alloc, count, rest)
+}
+
+/// Two lists of factors.
+#[tactic(auto, unfolding(crate::specs::Reading::pair_at))]
+fn two_lists(alloc: Global, bytes: &[u8]) -> Result<(List<i64>, List<i64>, &[u8]), ReadFault>
+    ensures { Gives (λ x. (x.0, x.1, x.2.now)) result (pair_at (list_at 66 (says_at literal_of)) bytes.now) }
+{
+    let (first, rest) = counted_factors(alloc, bytes)?;
+    let (second, rest) = counted_factors(alloc, rest)?;
+    Ok((first, second, rest))
+}
+
+/// A list of terms behind a blank and their number.
+#[tactic(auto, unfolding(crate::specs::Reading::part_at, crate::specs::Reading::list_at))]
+fn counted_terms(alloc: Global, vars: u32, bytes: &[u8]) -> Result<(List<Term>, &[u8]), ReadFault>
+    ensures { Gives (λ x. (x.0, x.1.now)) result (part_at (list_at 1000 (term_at 1000 vars)) bytes.now) }
+{
+    let (count, rest) = up_to(1000, skip(b' ', bytes)?)?;
+    terms(alloc, 1000, vars, count, rest)
+}
+
+/// The rule with its arguments, where its conclusion has so many variables.
+#[tactic(auto, unfolding(crate::specs::Reading::args_at, crate::specs::Reading::part_as, crate::specs::Reading::parts_at, crate::specs::Reading::part_at))]
+pub fn with_arguments<'a>(
+    alloc: Global,
+    arities: Arities,
+    vars: u32,
+    sign: RuleSign,
+    bytes: &'a [u8],
+) -> Result<(Rule, &'a [u8]), ReadFault>
+    requires table { length (told arities) ≤ 1000000 }
+    requires few { vars ≤ 1000 }
+    ensures { Gives (λ x. (x.0, x.1.now)) result (args_at (told arities.entry) vars sign bytes.now) }
+{
+    match sign {
+        RuleSign::Plain(rule) => Ok((rule, bytes)),
+        RuleSign::Inst => {
+            let (sigma, rest) = counted_terms(alloc, vars, bytes)?;
+            Ok((Rule::Inst { sigma }, rest))
+        }
+        RuleSign::AllE => {
+            let (t, rest) = term(alloc, 1000, vars, skip(b' ', bytes)?)?;
+            Ok((Rule::AllE { t }, rest))
+        }
+        RuleSign::ExI => {
+            let (t, rest) = term(alloc, 1000, vars, skip(b' ', bytes)?)?;
+            Ok((Rule::ExI { t }, rest))
+        }
+        RuleSign::Linear => {
+            let (first, second, rest) = two_lists(alloc, bytes)?;
+            Ok((Rule::Linear { first, second }, rest))
+        }
+        RuleSign::Rewrite => {
+            let (template, rest) = formula(alloc, arities, 1000, vars + 1, skip(b' ', bytes)?)?;
+            Ok((Rule::Rewrite { template }, rest))
+        }
+    }
+}

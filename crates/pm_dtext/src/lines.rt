@@ -1,0 +1,129 @@
+//! One line of a derivation text.
+
+ghost use Rattle.std.specs.Prelude.{◌≡◌, ◌≤◌, length};
+ghost use Rattle.pm_dtext.specs.Texts.{Reads, Gives, told};
+ghost use Rattle.pm_dtext.specs.Reading.{part_at, says_at, count_of, earlier_at, cite_at, entail_at, step_at, qed_at, line_at};
+
+use crate::arguments::with_arguments;
+use crate::arities::Arities;
+use crate::fault::{Fault, ReadFault};
+use crate::formulas::two_formulas;
+use crate::line::Line;
+use crate::names::rule_sign;
+use crate::signs::RuleSign;
+use crate::words::{expect_number, is_text, name, number, skip, up_to, word_of};
+use pm_logic::Name;
+use pm_rules::{Entail, premise_count};
+use std::alloc::Global;
+
+/// How many premises the rule takes, whatever its arguments are.
+fn count_of(sign: &RuleSign) -> u8
+    ensures { result ≡ count_of sign.now }
+{
+    match sign {
+        RuleSign::Plain(rule) => premise_count(rule),
+        RuleSign::Inst => 1,
+        RuleSign::AllE | RuleSign::ExI | RuleSign::Linear | RuleSign::Rewrite => 0,
+    }
+}
+
+/// The number of a proof line before this one.
+#[tactic(auto, unfolding(crate::specs::Reading::earlier_at))]
+fn earlier(next: u64, bytes: &[u8]) -> Result<(u64, &[u8]), Fault>
+    ensures { Reads (λ x. (x.0, x.1.now)) result (earlier_at next bytes.now) }
+{
+    let (cited, rest) = number(bytes)?;
+    if 1 <= cited && cited < next {
+        Ok((cited, rest))
+    } else {
+        Err(Fault::NoLine(cited))
+    }
+}
+
+/// A citation, where one is wanted.
+#[tactic(auto, unfolding(crate::specs::Reading::cite_at, crate::specs::Reading::part_as, crate::specs::Reading::part_at))]
+fn cite(next: u64, wanted: bool, bytes: &[u8]) -> Result<(Option<u64>, &[u8]), Fault>
+    ensures { Reads (λ x. (x.0, x.1.now)) result (cite_at next wanted bytes.now) }
+{
+    if !wanted {
+        return Ok((None, bytes));
+    }
+    let (cited, rest) = earlier(next, skip(b' ', bytes)?)?;
+    Ok((Some(cited), rest))
+}
+
+/// Both sides of an entailment with so many variables.
+#[tactic(auto, unfolding(crate::specs::Reading::entail_at, crate::specs::Reading::parts_at))]
+fn entail<'a>(
+    alloc: Global,
+    arities: Arities,
+    vars: u32,
+    bytes: &'a [u8],
+) -> Result<(Entail, &'a [u8]), ReadFault>
+    requires table { length (told arities) ≤ 1000000 }
+    requires few { vars ≤ 1000 }
+    ensures { Gives (λ x. (x.0, x.1.now)) result (entail_at (told arities.entry) vars bytes.now) }
+{
+    let (left, right, rest) = two_formulas(alloc, arities, 1000, vars, bytes)?;
+    Ok((Entail { vars, left, right }, rest))
+}
+
+/// The proof line of this number.
+#[tactic(auto, unfolding(crate::specs::Reading::step_at, crate::specs::Reading::part_at, crate::specs::Reading::ends_at))]
+fn step<'a>(
+    alloc: Global,
+    arities: Arities,
+    next: u64,
+    bytes: &'a [u8],
+) -> Result<(Line, &'a [u8]), ReadFault>
+    requires { length (told arities) ≤ 1000000 }
+    ensures { Gives (λ x. (x.0, x.1.now)) result (step_at (told arities.entry) next bytes.now) }
+{
+    let rest = expect_number(next, bytes)?;
+    let (sign, rest) = rule_sign(skip(b' ', rest)?)?;
+    let (vars, rest) = up_to(1000, skip(b' ', rest)?)?;
+    let count = count_of(&sign);
+    let (first, rest) = cite(next, 1 <= count, rest)?;
+    let (second, rest) = cite(next, 2 <= count, rest)?;
+    let (rule, rest) = with_arguments(alloc, arities, vars, sign, rest)?;
+    let (entail, rest) = entail(alloc, arities, vars, rest)?;
+    let rest = skip(b'\n', rest)?;
+    let line = Line::Step {
+        rule,
+        first,
+        second,
+        entail,
+    };
+    Ok((line, rest))
+}
+
+/// A statement's line behind its word.
+#[tactic(auto, unfolding(crate::specs::Reading::qed_at, crate::specs::Reading::part_at, crate::specs::Reading::ends_at))]
+fn qed(alloc: Global, next: u64, bytes: &[u8]) -> Result<(Line, &[u8]), ReadFault>
+    ensures { Gives (λ x. (x.0, x.1.now)) result (qed_at next bytes.now) }
+{
+    let (name, rest) = name(skip(b' ', bytes)?)?;
+    let (cited, rest) = earlier(next, skip(b' ', rest)?)?;
+    let rest = skip(b'\n', rest)?;
+    let name = Name::from_bytes(alloc, name)?;
+    Ok((Line::Qed { name, cited }, rest))
+}
+
+/// The line at the front, and what follows it, where `next` is the number of the next proof line.
+#[tactic(auto, unfolding(crate::specs::Reading::line_at))]
+pub fn line<'a>(
+    alloc: Global,
+    arities: Arities,
+    next: u64,
+    bytes: &'a [u8],
+) -> Result<(Line, &'a [u8]), ReadFault>
+    requires { length (told arities) ≤ 1000000 }
+    ensures { Gives (λ x. (x.0, x.1.now)) result (line_at (told arities.entry) next bytes.now) }
+{
+    let (word, rest) = word_of(bytes);
+    if is_text(word, "qed") {
+        qed(alloc, next, rest)
+    } else {
+        step(alloc, arities, next, bytes)
+    }
+}

@@ -1,0 +1,13 @@
+pub mod Connectives
+pub mod Star
+pub mod Laters
+pub mod Persistence
+pub mod Updates
+pub mod Facts
+pub mod Linear
+pub mod PointsTo
+pub mod Recursion
+pub mod Rows
+pub mod ByEquations
+pub mod Groups
+pub mod Sound

@@ -1,0 +1,5 @@
+use Rattle.pm_sound.proofs.Groups as mine
+use Rattle.pm_sound.proofs.connectives_are_sound.Goals as goal
+
+pub returns : goal.returns
+returns c = mine.connectives
