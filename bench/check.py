@@ -17,6 +17,9 @@ TOP = os.path.dirname(os.path.dirname(os.path.abspath(__file__)))
 PROGRAM = os.path.join(TOP, "crates", "mosel", "out", "mosel")
 OUT = os.path.join(TOP, "bench", "out")
 HEADER = b"mosel-derivation 1\narities 1\npred p pure eq v0 0\n"
+PREMISES = dict.fromkeys((b"trans", b"and-i", b"or-e", b"sep-mono"), 2) | dict.fromkeys(
+    (b"inst", b"imp-i", b"imp-e", b"all-i", b"ex-e", b"wand-i", b"wand-e", b"later-mono", b"pers-mono", b"upd-mono"), 1
+)
 SIZES = (1_000_000, 4_000_000, 16_000_000, 64_000_000)
 
 
@@ -53,13 +56,15 @@ def statements():
 
 
 def rules():
-    """Each of the rules in turn; bench/rules.txt has them, with {n} for its own line n."""
-    with open(os.path.join(TOP, "bench", "rules.txt")) as source:
-        block = source.read().splitlines()
-    for before in itertools.count(0, len(block)):
-        cited = [before + n for n in range(len(block) + 1)]
-        for n, line in enumerate(block, 1):
-            yield b"%d %s\n" % (before + n, line.format(*cited).encode())
+    """The proof lines of examples/rules.derivation, by each rule, again and again."""
+    with open(os.path.join(TOP, "examples", "rules.derivation"), "rb") as source:
+        lines = [line.split(b" ") for line in source if line[:1].isdigit()]
+    for before in itertools.count(0, len(lines)):
+        for line in lines:
+            number, rule, variables, *rest = line
+            cites = PREMISES.get(rule, 0)
+            numbers = [b"%d" % (before + int(n)) for n in (number, *rest[:cites])]
+            yield b" ".join([numbers[0], rule, variables, *numbers[1:], *rest[cites:]])
 
 
 def generate(kind, size, path):
