@@ -18,7 +18,7 @@ use Rattle.pm_dtext.specs.Reading.{part_as, word, after, expect_at, skip_at, say
 use Rattle.pm_dtext.specs.Laws.{LineIsSpelled}
 use Rattle.pm_dtext.proofs.Numbers.{first_digit}
 use Rattle.pm_dtext.proofs.Steps.{with_ok, chosen, chosen_ok, ok_is, if_false, both_true, true_both, le_true, true_le, lt_true, true_lt}
-use Rattle.pm_dtext.proofs.WordLaws.{stops, word_again, expect_again, part_again, parts_again, part_found, parts_found, expect_found, skip_found, word_found, decimal_word, number_at_again, number_at_found, up_to_again, up_to_found}
+use Rattle.pm_dtext.proofs.WordLaws.{stops, word_again, expect_again, part_again, parts_again, part_found, parts_found, expect_found, skip_found, word_found, decimal_word, number_at_again, number_at_found, number_at_small, up_to_again, up_to_found}
 use Rattle.pm_dtext.proofs.FormulaLaws.{formula_again, formula_found}
 use Rattle.pm_dtext.proofs.NameLaws.{name_again, name_found}
 use Rattle.pm_dtext.proofs.RuleLaws.{sign_for, sign_text, rule_again, count_again, sign_found, args_again, args_stop, args_found}
@@ -29,7 +29,7 @@ earlier_again : (n cited : ℕ) (rest : List ℕ) → n < 2 ^ 64 → IsEarlier n
 unfolding earlier_at
 earlier_again n cited rest small fits e =
     let tests : (nat_le 1 cited && nat_lt cited n) ≡ true = true_both (nat_le 1 cited) (nat_lt cited n) (true_le 1 cited fits.some) (true_lt cited n fits.before) in
-    rw (number_at_again cited rest (omega (arith, fits.before)) e) (rw tests refl)
+    rw (number_at_again cited rest fits.small e) (rw tests refl)
 
 record EarlierFound (n : ℕ) (bytes : List ℕ) (cited : ℕ) (rest : List ℕ) : Type 0 where
   parts : bytes ≡ decimal cited ++ rest
@@ -42,7 +42,7 @@ earlier_found n bytes cited rest e =
     let t = chosen_ok (nat_le 1 c.0 && nat_lt c.0 n) c (cited, rest) (NoLine c.0) hc in
     let b = both_true (nat_le 1 c.0) (nat_lt c.0 n) t.0 in
     subst (λ (x : ℕ × List ℕ). EarlierFound n bytes x.0 x.1) t.1
-    (record { parts = number_at_found bytes c.0 c.1 ec; fits = record { some = le_true 1 c.0 b.0; before = lt_true c.0 n b.1 } }))
+    (record { parts = number_at_found bytes c.0 c.1 ec; fits = record { some = le_true 1 c.0 b.0; before = lt_true c.0 n b.1; small = number_at_small bytes c.0 c.1 ec } }))
 
 cite_again : (n : ℕ) (cited : Option ℕ) (rest : List ℕ) → n < 2 ^ 64 → CiteFits n cited → stops rest ≡ true → cite_at n (is_some cited) (cite_text cited rest) ≡ Ok (cited, rest)
 unfolding cite_at part_as

@@ -203,6 +203,9 @@ number_at_found bytes n rest e =
     let s = says_found number_of bytes n rest e in
     s.parts ∙ ap (λ w. w ++ rest) (number_some s.w n s.says_it).0
 
+pub number_at_small : (bytes : List ℕ) (n : ℕ) (rest : List ℕ) → says_at number_of bytes ≡ Ok (n, rest) → n < 2 ^ 64
+number_at_small bytes n rest e = let s = says_found number_of bytes n rest e in (number_some s.w n s.says_it).1
+
 pub where_again : (test : ℕ → Bool) (n : ℕ) → n < 2 ^ 64 → test n ≡ true → where_it test (number_of (decimal n)) ≡ Some n
 where_again test n small h = rw (number_again n small) (if_true (test n) (Some n) None h)
 

@@ -79,6 +79,7 @@ pub record FormulaFits (arities : List ℕ) (k : ℕ) (f : Formula) : Type 0 whe
 pub record IsEarlier (n cited : ℕ) : Type 0 where
   pub some : 1 ≤ cited
   pub before : cited < n
+  pub small : cited < 2 ^ 64
 
 abbrev pub CiteFits : ℕ → Option ℕ → Type 0
 CiteFits n None = ⊤

@@ -239,7 +239,7 @@ formula_fits : (f : Formula) → IsSmallFormula f → connectives f ≤ 900 → 
 formula_fits f small le = record { in_range = small_in_range f small; levels = omega (arith, depth_connectives f small) }
 
 earlier : (n cited : ℕ) → 1 ≤ cited → cited < n → n ≤ 100000 → IsEarlier n cited
-earlier n cited some before few = record { some = some; before = before }
+earlier n cited some before few = record { some = some; before = before; small = omega arith }
 
 comm_fits : (n : ℕ) (p q : Formula) → Fits p → Fits q → StepFits [] n SepComm None None (entails p q)
 unfolding ArgsFit
