@@ -1,0 +1,5 @@
+use Rattle.pm_tokens.proofs.Spelled as spelled
+use Rattle.pm_tokens.proofs.laws.numbers_are_read.Goals as goal
+
+pub returns : goal.returns
+returns c = spelled.numbers_are_read
