@@ -2,8 +2,8 @@
 use Rattle.std.proofs.Common.{◌≡◌, ◌&&◌, ℕ, Bool, true, not, List, ◌++◌, ◌∙◌, ap, subst, Some, None, Ok}
 use Rattle.std.specs.List.{list_any}
 use Rattle.std.specs.Str.{bytes_eq}
-use Rattle.pm_text.specs.Names.{is_name}
-use Rattle.pm_text.proofs.Words.{name_word}
+use Rattle.pm_names.specs.Names.{is_name}
+use Rattle.pm_names.proofs.Words.{name_word}
 use Rattle.pm_dtext.specs.Reading.{says_at, name_of, new_name_of}
 use Rattle.pm_dtext.proofs.Steps.{both_true, if_true, some_is}
 use Rattle.pm_dtext.proofs.WordLaws.{stops, says_again, says_found}

@@ -16,7 +16,7 @@ use Rattle.pm_rules.specs.declared.rules.Rule.{Rule}
 use Rattle.pm_rules.specs.declared.rules.Rule.TheVariants.{Inst, AllE, ExI, Linear, Rewrite}
 use Rattle.pm_rules.specs.declared.rules.Entail.{Entail}
 use Rattle.pm_rules.specs.Rules.{premise_count}
-use Rattle.pm_text.specs.Names.{is_name}
+use Rattle.pm_names.specs.Names.{is_name}
 use Rattle.pm_dtext.specs.declared.line.Line.{Line}
 use Rattle.pm_dtext.specs.declared.line.Line.TheVariants.{Step, Qed}
 

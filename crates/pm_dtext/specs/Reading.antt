@@ -23,7 +23,7 @@ use Rattle.pm_rules.specs.declared.rules.Rule.TheVariants as rule
 use Rattle.pm_rules.specs.declared.rules.Entail.{Entail}
 use Rattle.pm_rules.specs.Rules.{premise_count}
 use Rattle.pm_rules.specs.Shapes.{one, two}
-use Rattle.pm_text.specs.Names.{is_name}
+use Rattle.pm_names.specs.Names.{is_name}
 use Rattle.pm_dtext.specs.declared.fault.Fault.{Fault}
 use Rattle.pm_dtext.specs.declared.fault.Fault.TheVariants.{Syntax, NoLine, Deep}
 use Rattle.pm_dtext.specs.declared.signs.TermSign.{TermSign}

@@ -11,7 +11,7 @@ use crate::fault::{Fault, ReadFault};
 use crate::formulas::formula;
 use crate::words::{expect, skip, up_to, word_of};
 use pm_logic::{List, Name, Pred};
-use pm_text::is_name;
+use pm_names::is_name;
 use std::alloc::Global;
 
 /// What follows the first line.

@@ -9,7 +9,7 @@ ghost use Rattle.pm_dtext.specs.Reading.{is_word_byte, word, after, expect_at, s
 
 use crate::fault::Fault;
 use pm_logic::UNIT;
-use pm_text::is_name;
+use pm_names::is_name;
 
 fn word_len(bytes: &[u8]) -> usize
     ensures count { result ≡ prefix_len is_word_byte bytes.now }

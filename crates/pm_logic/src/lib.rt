@@ -26,7 +26,7 @@ pub use guarding::guarded;
 pub use list::{Bytes, List, Memory};
 pub use name::{Name, copy_name};
 pub use scoping::scoped;
-pub use size::{depth, nodes};
+pub use size::{depth, nodes, pure_depth, term_depth};
 pub use substitution::{
     abstract_term, abstracted_opens, are_substitutions, copy, copy_pure, copy_term,
     equality_is_tested, is_opened, is_shift, is_subst, opened, scope_is_kept, shift, subst,

@@ -32,8 +32,9 @@ fn above(a: u32, b: u32) -> u32
     a.max(b).saturating_add(1)
 }
 
+/// How deep `t` is: every constructor is one level. What is deeper than `u32::MAX` counts as that.
 #[tactic(auto, using(crate::proofs::Sizes::term_depths))]
-fn term_depth(t: &Term) -> u32
+pub fn term_depth(t: &Term) -> u32
     ensures { result ≡ min (size.term_depth t.now) u32.MAX }
 {
     match t {
@@ -54,8 +55,10 @@ fn terms_depth(ts: &[Term]) -> u32
     deepest
 }
 
+/// How deep `p` is: every constructor of pure formula and term is one level. What is deeper than `u32::MAX` counts as
+/// that.
 #[tactic(auto, using(crate::proofs::Sizes::pure_depths))]
-fn pure_depth(p: &Pure) -> u32
+pub fn pure_depth(p: &Pure) -> u32
     ensures { result ≡ min (size.pure_depth p.now) u32.MAX }
 {
     match p {

@@ -1,2 +1,5 @@
-pub mod Characters
-pub mod Words
+pub mod BoundNames
+pub mod Callees
+pub mod CountedFrom
+mod Examples
+pub mod SymbolCases

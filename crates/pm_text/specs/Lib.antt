@@ -1,1 +1,3 @@
-pub mod Names
+pub mod FormulaReading
+pub mod Parts
+pub mod TextReading

@@ -1,8 +1,19 @@
-//! Text: which bytes are a name.
+//! Formulas, read from texts.
 #![tactic(auto)]
 
-mod names;
+mod calls;
+mod formulas;
+mod infixes;
+mod level;
+mod openings;
+mod points;
+mod texts;
+mod units;
+
+pub use formulas::{Bound, formula_in};
+pub use level::{Binder, Infix, Level};
+pub use points::ReadFormula;
+pub use texts::{read_formula, read_pure, read_term};
+
 #[cfg(test)]
 mod tests;
-
-pub use names::is_name;

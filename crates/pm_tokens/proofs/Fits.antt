@@ -9,7 +9,8 @@ use Rattle.pm_tokens.specs.declared.symbol.Symbol.{Symbol}
 use Rattle.pm_tokens.specs.Tokens.{Place, place}
 use Rattle.pm_tokens.specs.Modes.{after}
 use Rattle.pm_tokens.specs.Symbols.{begins, symbol_at}
-use Rattle.pm_tokens.specs.Characters.{first_char, starts_name, continues_name, run, name_by, name_len, is_digit}
+use Rattle.pm_names.specs.Names.{starts_name, continues_name}
+use Rattle.pm_tokens.specs.Characters.{first_char, run, name_by, name_len, is_digit}
 use Rattle.pm_tokens.specs.Pieces.{Piece, gap, token, is_blank, comment, comment_by, comment_step, comment_end, digits, word, sign_by, word_or_sign, first_piece}
 use Rattle.pm_tokens.specs.Texts.{Lexed, put, lex, lex_by, added, behind, AreTokens, stops, passes, takes, Rise, HasOneList}
 use Rattle.pm_tokens.proofs.Runs.{run_on}

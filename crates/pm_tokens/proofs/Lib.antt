@@ -6,3 +6,4 @@ pub mod Lexing
 pub mod Named
 pub mod Fits
 pub mod Spelled
+mod Reserved

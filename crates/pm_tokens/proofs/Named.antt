@@ -11,8 +11,11 @@ use Rattle.pm_tokens.specs.declared.symbol.Symbol.TheVariants.{Wildcard}
 use Rattle.pm_tokens.specs.Tokens.{symbol}
 use Rattle.pm_tokens.specs.Modes.{after}
 use Rattle.pm_tokens.specs.Symbols.{begins, keyword, symbol_at}
-use Rattle.pm_tokens.specs.Characters.{one, only_char, front_char, or_else, first_char, starts_name, continues_name, run, name_by, name_len, is_digit, with_len}
-use Rattle.pm_tokens.specs.Names.{is_identifier, is_name, is_named, are_named}
+use Rattle.pm_names.specs.Names.{starts_name, continues_name}
+use Rattle.pm_tokens.specs.Characters.{one, only_char, front_char, or_else, first_char, run, name_by, name_len, is_digit, with_len}
+use Rattle.pm_names.specs.Names.{is_identifier, is_name}
+use Rattle.pm_tokens.specs.Names.{is_named, are_named}
+use Rattle.pm_tokens.proofs.Reserved.{not_reserved}
 use Rattle.pm_tokens.specs.Pieces.{Piece, gap, token, is_blank, comment, comment_by, comment_end, digits, is_quoted, word, word_by, sign_by, word_or_sign, first_piece}
 use Rattle.pm_tokens.specs.Texts.{Lexed, lex, lex_by}
 use Rattle.pm_tokens.proofs.Runs.{run_on}
@@ -124,7 +127,7 @@ abbrev IsIdentifier : List ℕ → Type 0
 IsIdentifier w = (is_utf8 w ≡ true) × (is_identifier (chars w) ≡ true)
 
 name_is : (bs : List ℕ) → 0 < name_len bs → IsIdentifier (take (name_len bs) bs)
-unfolding name_len
+unfolding name_len is_identifier
 name_is bs some = go (first_char bs) (first_is bs) some
   where
     starts : (c n : ℕ) → BeginsWith bs c n → (t : Bool) → starts_name c ≡ t → 0 < cond t (n + run 0 (drop n bs)) 0 → IsIdentifier (take (cond t (n + run 0 (drop n bs)) 0) bs)
@@ -168,7 +171,7 @@ word_named mode w is = quoted (is_quoted mode && bytes_eq w (codes "_"))
   where
     plain : (o : Option Symbol) → keyword w ≡ o → is_named (word_by w o) ≡ true
     plain (Some s) e = refl
-    plain None e = rw (is.0, is.1, e) refl
+    plain None e = rw (is.0, is.1, not_reserved w e) refl
 
     quoted : (b : Bool) → is_named (cond b (symbol Wildcard) (word_by w (keyword w))) ≡ true
     quoted true = refl

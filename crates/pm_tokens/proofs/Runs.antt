@@ -4,7 +4,8 @@ use Rattle.std.specs.Char.{encode_utf8}
 use Rattle.std.specs.Str.{IsUtf8, is_utf8, chars}
 use Rattle.std.proofs.lemmas.Str.{chars-encodes, chars-nil, encode_same, length-encode, len_utf8_bounds, is_utf8-from_IsUtf8, IsUtf8-from_is_utf8}
 use lib.Utf8.{scalars, encodes}
-use Rattle.pm_tokens.specs.Characters.{one, only_char, first_char, continues_name, run}
+use Rattle.pm_names.specs.Names.{continues_name}
+use Rattle.pm_tokens.specs.Characters.{one, only_char, first_char, run}
 
 pub record IsFirst (bs : List ℕ) (c : ℕ) (rest : List ℕ) : Type 0 where
   pub all : chars bs ≡ c ∷ chars rest

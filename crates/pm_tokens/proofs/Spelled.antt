@@ -11,12 +11,14 @@ use Rattle.std.proofs.lemmas.List.{append-nil, take-append-drop, take-append-le,
 use Rattle.std.proofs.lemmas.Str.{chars-encodes, encode_same, length-encode, len_utf8_bounds, char_from_byte, is_utf8-from_IsUtf8, IsUtf8-from_is_utf8}
 use Rattle.unicode_ident.proofs.IdentLemmas.{is_xid_start-ascii}
 use lib.Utf8.{scalar, scalars, encode, encodes}
-use Rattle.pm_tokens.specs.Characters.{one, only_char, front_char, or_else, first_char, starts_name, continues_name, run, name_by, name_len, with_len, is_digit, number_of}
+use Rattle.pm_names.specs.Names.{starts_name, continues_name}
+use Rattle.pm_tokens.specs.Characters.{one, only_char, front_char, or_else, first_char, run, name_by, name_len, with_len, is_digit, number_of}
 use Rattle.pm_tokens.specs.declared.mode.Mode.{Mode}
 use Rattle.pm_tokens.specs.declared.symbol.Symbol.{Symbol}
 use Rattle.pm_tokens.specs.Tokens.{name, number, symbol}
 use Rattle.pm_tokens.specs.Symbols.{begins, keyword, symbol_at}
-use Rattle.pm_tokens.specs.Names.{is_identifier, is_missing, is_name}
+use Rattle.pm_names.specs.Names.{is_identifier, is_reserved, is_name}
+use Rattle.pm_tokens.proofs.Reserved.{is_no_keyword}
 use Rattle.pm_tokens.specs.Pieces.{token, is_quoted, is_blank, begins_with, digits, word, word_or_sign, first_piece}
 use Rattle.pm_tokens.specs.Spelling.{ends_name, ends_by, begins_otherwise, NamesAreRead, NumbersAreRead, SymbolsAreRead}
 use Rattle.pm_tokens.proofs.Runs.{run_on}
@@ -179,18 +181,14 @@ whole_word mode w rest some quoted missing =
     let filled : (length w == 0) ≡ false = grind (arith, nat_tests, some) in
     rw (filled, take-append_seam w rest, quoted, missing) refl
 
-missing_is : (o : Option Symbol) → is_missing o ≡ true → o ≡ None
-missing_is None e = refl
-missing_is (Some s) e = absurd cc
-
 pub names_are_read : NamesAreRead
-unfolding is_name
+unfolding is_name is_identifier
 names_are_read mode w rest is quoted ends =
-    let p = both_true (is_utf8 w && is_identifier (chars w)) (is_missing (keyword w)) is in
+    let p = both_true (is_utf8 w && is_identifier (chars w)) (not (is_reserved w)) is in
     let q = both_true (is_utf8 w) (is_identifier (chars w)) p.0 in
     let u = IsUtf8-from_is_utf8 w q.0 in
     let same : chars w ≡ u.0 = ap chars (sym u.1.1) ∙ chars-encodes u.0 u.1.0 in
-    go u.0 u.1.0 u.1.1 (ap is_identifier (sym same) ∙ q.1) (missing_is (keyword w) p.1)
+    go u.0 u.1.0 u.1.1 (ap is_identifier (sym same) ∙ q.1) (is_no_keyword w p.1)
   where
     go : (cs : List ℕ) → scalars cs ≡ true → encodes cs ≡ w → is_identifier cs ≡ true → keyword w ≡ None → first_piece mode (w ++ rest) ≡ Some (token (name w), length w)
     go [] s e i missing = absurd cc

@@ -1,7 +1,7 @@
 -- The characters of bytes, names and numbers.
 use Rattle.std.specs.Prelude.{ℕ, zero, suc, ◌+◌, ◌-◌, ◌*◌, ◌^◌, Bool, ◌||◌, ◌&&◌, ◌==◌, nat_le, min, if◌then◌else◌, List, [], ◌∷◌, take, drop, length, Option, Some, None}
 use Rattle.std.specs.Str.{is_utf8, chars}
-use Rattle.unicode_ident.specs.Ident.{is_xid_start, is_xid_continue}
+use Rattle.pm_names.specs.Names.{starts_name, continues_name}
 
 -- ---- the first character
 
@@ -31,12 +31,6 @@ unfoldable pub first_char : List ℕ → Option (ℕ × ℕ)
 first_char bytes = or_else (front_char 1 bytes) (or_else (front_char 2 bytes) (or_else (front_char 3 bytes) (front_char 4 bytes)))
 
 -- ---- names
-
-abbrev pub starts_name : ℕ → Bool
-starts_name c = is_xid_start c || c == 95
-
-abbrev pub continues_name : ℕ → Bool
-continues_name c = is_xid_continue c || c == 39
 
 -- how many bytes the characters at the front take that continue a name; the first number counts the bytes that are left of one
 abbrev pub run_by : Option (ℕ × ℕ) → (ℕ → ℕ) → ℕ

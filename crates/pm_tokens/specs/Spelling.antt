@@ -8,8 +8,9 @@ use Rattle.pm_tokens.specs.declared.mode.Mode.{Mode}
 use Rattle.pm_tokens.specs.declared.symbol.Symbol.{Symbol}
 use Rattle.pm_tokens.specs.Tokens.{name, number, symbol}
 use Rattle.pm_tokens.specs.Symbols.{begins, symbol_at}
-use Rattle.pm_tokens.specs.Characters.{first_char, starts_name, continues_name, is_digit, number_of}
-use Rattle.pm_tokens.specs.Names.{is_name}
+use Rattle.pm_names.specs.Names.{starts_name, continues_name}
+use Rattle.pm_tokens.specs.Characters.{first_char, is_digit, number_of}
+use Rattle.pm_names.specs.Names.{is_name}
 use Rattle.pm_tokens.specs.Pieces.{token, is_quoted, is_blank, begins_with, first_piece}
 
 abbrev pub ends_by : Option (ℕ × ℕ) → Bool

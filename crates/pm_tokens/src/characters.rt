@@ -3,9 +3,9 @@
 ghost use Rattle.std.specs.Prelude.{◌≡◌, ℕ, ◌≤◌, ◌<◌, take, length, IfSome};
 ghost use Rattle.std.specs.List.{prefix_len};
 ghost use Rattle.std.specs.Str.{chars};
-ghost use Rattle.pm_tokens.specs.Characters.{one, only_char, front_char, first_char, starts_name, continues_name, run, name_len, is_digit, number_of};
+ghost use Rattle.pm_tokens.specs.Characters.{one, only_char, front_char, first_char, run, name_len, is_digit, number_of};
 
-use unicode_ident::{is_xid_continue, is_xid_start};
+use pm_names::{continues_name, starts_name};
 
 /// The character of a text that has one.
 fn one(text: &str) -> Option<char>
@@ -50,7 +50,7 @@ fn front_char(n: usize, bytes: &[u8]) -> Option<(char, usize)>
 
 /// The first character of the bytes and its length, if they begin with one.
 #[tactic(auto, unfolding(crate::specs::Characters::first_char))]
-fn first_char(bytes: &[u8]) -> Option<(char, usize)>
+pub fn first_char(bytes: &[u8]) -> Option<(char, usize)>
     ensures value { result ≡ first_char bytes.now }
     ensures within { IfSome result (λ x. (0 < x.1) × (x.1 ≤ length bytes.now)) }
 {
@@ -64,18 +64,6 @@ fn first_char(bytes: &[u8]) -> Option<(char, usize)>
         return Some(found);
     }
     front_char(4, bytes)
-}
-
-fn starts_name(c: char) -> bool
-    ensures { result ≡ starts_name c }
-{
-    is_xid_start(c) || c == '_'
-}
-
-fn continues_name(c: char) -> bool
-    ensures { result ≡ continues_name c }
-{
-    is_xid_continue(c) || c == '\''
 }
 
 /// How many bytes the characters at the front take that continue a name.

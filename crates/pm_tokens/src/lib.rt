@@ -10,6 +10,7 @@ mod symbols;
 mod text;
 mod token;
 
+pub use characters::first_char;
 pub use laws::{names_are_read, numbers_are_read, symbols_are_read, texts_have_one_list};
 pub use symbol::Symbol;
 pub use text::tokens;

@@ -9,7 +9,7 @@ use Rattle.pm_goal.specs.declared.goal.Hyp.{Hyp}
 use Rattle.pm_goal.specs.declared.goal.Goal.{Goal}
 use Rattle.pm_logic.specs.declared.formula.Pred.{Pred}
 use Rattle.pm_logic.specs.Scope.{no_predicates}
-use Rattle.pm_text.specs.Names.{is_name}
+use Rattle.pm_names.specs.Names.{is_name}
 use Rattle.pm_dtext.specs.declared.line.Line.{Line}
 use Rattle.pm_dtext.specs.declared.line.Line.TheVariants.{Step, Qed}
 use Rattle.pm_dtext.specs.Ranges.{IsI64}

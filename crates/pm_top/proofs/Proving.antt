@@ -18,7 +18,7 @@ use Rattle.pm_rules.specs.declared.rules.Rule.TheVariants.{Trans, SepComm, SepWe
 use Rattle.pm_rules.specs.declared.rules.Entail.{Entail}
 use Rattle.pm_rules.specs.Shapes.{Letters}
 use Rattle.pm_rules.specs.Rules.{premises, HasArguments, HasBracket, RuleOk}
-use Rattle.pm_text.specs.Names.{is_name}
+use Rattle.pm_names.specs.Names.{is_name}
 use Rattle.pm_dtext.specs.declared.line.Line.{Line}
 use Rattle.pm_dtext.specs.declared.line.Line.TheVariants.{Step, Qed}
 use Rattle.pm_dtext.specs.Ranges.{TermInRange, PureInRange, InRange, FormulaFits, ArgsFit, IsEarlier, StepFits}

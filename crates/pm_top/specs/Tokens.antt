@@ -7,7 +7,7 @@ use Rattle.pm_top.specs.declared.script_signs.Sign.TheVariants.{Open, Close, Col
 use Rattle.pm_top.specs.declared.tokens.Token.{Token as ReadToken}
 use Rattle.pm_top.specs.declared.tokens.Token.TheVariants as made
 use Rattle.pm_top.specs.declared.tokens.Placed.{Placed}
-use Rattle.pm_text.specs.Names.{is_name}
+use Rattle.pm_names.specs.Names.{is_name}
 
 pub data Token : Type 0 where
   word : (letters : List ℕ) → Token

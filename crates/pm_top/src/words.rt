@@ -5,7 +5,7 @@ ghost use Rattle.std.specs.List.{list_all};
 ghost use Rattle.std.specs.Str.{bytes_eq};
 ghost use Rattle.pm_top.specs.Tokens.{is_letter, is_name_byte, is_small_name};
 
-use pm_text::is_name;
+use pm_names::is_name;
 
 /// Whether a word is this text.
 pub fn is_text(word: &[u8], text: &str) -> bool

@@ -1,0 +1,7 @@
+pub mod Steps
+pub mod Going
+pub mod Ending
+pub mod Steady
+pub mod Split
+pub mod SplitFound
+pub mod Examples

@@ -1,0 +1,6 @@
+pub mod Cutting
+pub mod CuttingLaws
+pub mod Spans
+pub mod Machine
+pub mod Fed
+pub mod Splitting

@@ -1,0 +1,10 @@
+pub mod Steps
+pub mod TermsRead
+pub mod Balanced
+pub mod PuresRead
+pub mod FormulasRead
+pub mod Complete
+pub mod TermsDerived
+pub mod PuresDerived
+pub mod FormulasDerived
+pub mod Sound

@@ -1,0 +1,6 @@
+pub mod FormulaGrammar
+pub mod Openings
+pub mod Parts
+pub mod PureGrammar
+pub mod TermGrammar
+pub mod ReadingLaws

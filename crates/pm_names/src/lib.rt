@@ -1,0 +1,8 @@
+//! Names: which bytes are one.
+#![tactic(auto)]
+
+mod names;
+#[cfg(test)]
+mod tests;
+
+pub use names::{continues_name, is_name, starts_name};

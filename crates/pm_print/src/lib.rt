@@ -1,0 +1,16 @@
+//! Terms, pure formulas and formulas, printed, and the lines of predicates and statements.
+#![tactic(auto)]
+
+mod formulas;
+mod lines;
+mod names;
+mod print;
+mod pures;
+mod sign;
+mod terms;
+#[cfg(test)]
+mod tests;
+mod text;
+mod units;
+
+pub use print::{print_formula, print_lemma, print_predicate, print_pure, print_term};

@@ -1,0 +1,9 @@
+pub mod LexedPieces
+pub mod Standing
+pub mod Parts
+pub mod Printed
+pub mod Found
+pub mod Shares
+pub mod Derived
+pub mod FormulasDerived
+pub mod ReadAgain

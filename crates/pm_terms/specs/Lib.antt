@@ -1,0 +1,4 @@
+pub mod PureReading
+pub mod Scope
+pub mod Steps
+pub mod TermReading

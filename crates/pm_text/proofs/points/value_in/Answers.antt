@@ -1,0 +1,7 @@
+use Rattle.std.proofs.Common.{◌≡◌, Err, sym, ap, arith}
+use Rattle.pm_text.specs.FormulaReading.{value_in}
+use Rattle.pm_text.proofs.points.value_in.Goals as goal
+
+pub returns-then-room-eq0 : goal.returns-then-room-eq0
+unfolding value_in
+returns-then-room-eq0 c = let none : c.args.room ≡ 0 = omega arith in rw none (λ _. ap Err (sym c.deep_value.ensures))
