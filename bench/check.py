@@ -1,9 +1,9 @@
 #!/usr/bin/env python3
 """Measures `check`: seconds, megabytes a second and peak memory on generated derivations.
 
-Run it at the top of the repository, after the program was built (./mosel does that):
-    python3 bench/check.py
-It writes its inputs to bench/out, which isn't kept, and prints a line for each.
+Run it at the top of the repository, after the program was built (./mosel does that), or name a program:
+    python3 bench/check.py [PROGRAM]
+It writes its inputs to bench/out, which isn't kept, and prints a line for each, with the last line of the answer.
 """
 
 import itertools
@@ -80,18 +80,21 @@ def generate(kind, size, path):
     return size - left
 
 
-def measure(path):
+def measure(program, path):
     with open(path, "rb") as source:
         start = time.monotonic()
-        process = subprocess.Popen([PROGRAM, "check"], stdin=source, stdout=subprocess.PIPE)
-        answer = process.stdout.read().decode().strip()
+        process = subprocess.Popen([program, "check"], stdin=source, stdout=subprocess.PIPE)
+        end = b""
+        while piece := process.stdout.read(1 << 16):
+            end = (end + piece)[-200:]
         _, status, usage = os.wait4(process.pid, 0)
         seconds = time.monotonic() - start
+    answer = end.decode(errors="replace").strip().rsplit("\n", 1)[-1]
     return answer, os.waitstatus_to_exitcode(status), seconds, usage.ru_maxrss * 1024
 
 
-def main():
-    if not os.path.exists(PROGRAM):
+def main(program):
+    if not os.path.exists(program):
         sys.exit("build the program first: ./mosel check < examples/swap.derivation")
     os.makedirs(OUT, exist_ok=True)
     print(f"{'input':<12} {'MB':>6} {'seconds':>8} {'MB/s':>7} {'peak MB':>8} {'times':>6}  answer")
@@ -99,7 +102,7 @@ def main():
         for size in SIZES:
             path = os.path.join(OUT, f"{kind.__name__}-{size}")
             length = generate(kind, size, path)
-            answer, status, seconds, peak = measure(path)
+            answer, status, seconds, peak = measure(program, path)
             mb = length / 1e6
             print(
                 f"{kind.__name__:<12} {mb:>6.1f} {seconds:>8.3f} {mb / seconds:>7.1f} {peak / 1e6:>8.1f}"
@@ -108,4 +111,4 @@ def main():
 
 
 if __name__ == "__main__":
-    main()
+    main(sys.argv[1] if sys.argv[1:] else PROGRAM)

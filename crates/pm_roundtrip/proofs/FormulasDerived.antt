@@ -25,8 +25,9 @@ use Rattle.pm_grammar.specs.TermGrammar.{IsTerm, operand}
 use Rattle.pm_grammar.specs.FormulaGrammar as g
 use Rattle.pm_grammar.specs.FormulaGrammar.{AreTerms, AreArguments, End, closed, body, IsFormula}
 use Rattle.pm_dtext.specs.Ranges.{TermInRange, InRange}
+use Rattle.pm_dtext.specs.Texts.{arities_of}
 use Rattle.pm_print.specs.Printing.{Names, Piece, blank, sign, operator, before, between, level, fraction, common_divisor, units_pieces, quantifier, bound, names_of, term_pieces, terms_pieces, pure_pieces, formula_pieces, tokens_of}
-use Rattle.pm_roundtrip.specs.PrintingLaws.{arities_of, PrintingIsDerived}
+use Rattle.pm_roundtrip.specs.PrintingLaws.{PrintingIsDerived}
 use Rattle.pm_roundtrip.proofs.Found.{Differ, Scope, scope_of, bound_scope, predicate_found}
 use Rattle.pm_roundtrip.proofs.Shares.{lowest}
 use Rattle.pm_roundtrip.proofs.Derived.{tokens-append, tokens-link, tokens-infix, tokens-between, sort_of, pure_level, term_derived, pure_derived}

@@ -8,7 +8,8 @@ use Rattle.std.proofs.lemmas.Slice.Eq.{bytes_eq-Decides}
 use Rattle.pm_logic.specs.declared.formula.Pred.{Pred}
 use Rattle.pm_terms.specs.Scope.{callables, variable_of, callable_of}
 use Rattle.pm_print.specs.Printing.{Names, binder_name, bound, names_of}
-use Rattle.pm_roundtrip.specs.PrintingLaws.{AreVariables, arities_of}
+use Rattle.pm_dtext.specs.Texts.{arities_of}
+use Rattle.pm_roundtrip.specs.PrintingLaws.{AreVariables}
 
 -- no two are one
 abbrev pub Differ : Names → Type 0

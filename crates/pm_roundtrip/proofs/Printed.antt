@@ -30,8 +30,9 @@ use Rattle.pm_tokens.specs.Characters.{is_digit}
 use Rattle.pm_tokens.specs.Tokens.{name}
 use Rattle.pm_names.specs.Names.{continues_name, is_identifier, is_reserved, is_name}
 use Rattle.pm_dtext.specs.Ranges.{TermInRange, PureInRange, InRange}
+use Rattle.pm_dtext.specs.Texts.{arities_of}
 use Rattle.pm_print.specs.Printing.{Names, Piece, blank, token, sign, operator, quantifier, bound, binder_name, names_of, term_pieces, terms_pieces, pure_pieces, units_pieces, fraction, common_divisor, formula_pieces}
-use Rattle.pm_roundtrip.specs.PrintingLaws.{arities_of, IsLexed, PrintingIsLexed}
+use Rattle.pm_roundtrip.specs.PrintingLaws.{IsLexed, PrintingIsLexed}
 use Rattle.pm_roundtrip.proofs.LexedPieces.{Lexes, lexes_none}
 use Rattle.pm_roundtrip.proofs.Standing as sign_of
 use Rattle.pm_roundtrip.proofs.Standing.{IsPrefix, decimal_spells}

@@ -1,5 +1,5 @@
 -- What holds of reading and printing together.
-use Rattle.std.specs.Prelude.{◌≡◌, ◌≢◌, ◌⊎◌, ℕ, ◌+◌, ◌<◌, ◌≤◌, ◌^◌, List, [], length, get_or, map, IsTrue, Result, Ok}
+use Rattle.std.specs.Prelude.{◌≡◌, ◌≢◌, ◌⊎◌, ℕ, ◌+◌, ◌<◌, ◌≤◌, ◌^◌, List, [], length, get_or, IsTrue, Result, Ok}
 use Rattle.pm_logic.specs.declared.formula.Term.{Term}
 use Rattle.pm_logic.specs.declared.formula.Pure.{Pure}
 use Rattle.pm_logic.specs.declared.formula.Formula.{Formula}
@@ -18,6 +18,7 @@ use Rattle.pm_grammar.specs.FormulaGrammar.{End, IsFormula}
 use Rattle.pm_grammar.specs.Openings.{openings}
 use Rattle.pm_grammar.specs.ReadingLaws.{tokens_at, IsDeep}
 use Rattle.pm_dtext.specs.Ranges.{TermInRange, PureInRange, InRange}
+use Rattle.pm_dtext.specs.Texts.{arities_of}
 use Rattle.pm_print.specs.Printing.{Names, Piece, binder_name, names_of, term_pieces, pure_pieces, formula_pieces, text_of, tokens_of, term_text, pure_text, formula_text}
 
 -- ---- What is printed is written by the grammar.
@@ -31,9 +32,6 @@ pub record AreNames (names : Names) : Type 0 where
 pub record AreVariables (names : Names) : Type 0 where
   pub found : AreNames names
   pub free : (i k : ℕ) → i < length names → length names ≤ k → get_or names i [] ≢ binder_name k
-
-abbrev pub arities_of : List Pred → List ℕ
-arities_of preds = map (λ p. p.arity) preds
 
 -- A formula over these predicates and variables, in range. The numbers of its binders have at most 64 bits.
 pub record IsPrintable (preds : List Pred) (names : Names) (f : Formula) : Type 0 where

@@ -2,7 +2,10 @@
 use Rattle.std.proofs.Common.{◌≡◌, ℕ, ◌≤◌, List, length, refl, sym, subst, arith, Option, Some, None, inr}
 use Rattle.std.specs.Io.KnownBytes.{Appends}
 use Rattle.pm_io.specs.Taken.{TakesAll, HasMoreThan, AppendsFront}
-use Rattle.pm_logic.specs.declared.formula.Formula.{Formula}
+use Rattle.pm_logic.specs.declared.formula.Pred.{Pred}
+use Rattle.pm_check.specs.declared.checked.Statement.{Statement}
+use Rattle.pm_run.specs.Runs.{accepted, RunsTo}
+use Rattle.pm_run.specs.Coming.{limit}
 use Rattle.pm_check.specs.Answers.{IfTold}
 use Rattle.pm_top.specs.Truth.{SaysTrue}
 use Rattle.pm_top.specs.declared.command.Command.{Command}
@@ -10,9 +13,6 @@ use Rattle.pm_top.specs.declared.command.Command.TheVariants.{Check, Run}
 use Rattle.pm_top.specs.declared.status.Status.{Status}
 use Rattle.pm_top.specs.declared.status.Status.TheVariants as status
 use Rattle.pm_top.specs.Answers.{too_long_line, Checks, Runs, Answers, IsLong, longest, Defines, Defines.usage, Defines.answer, Defines.too_long}
-use Rattle.pm_top.specs.Sentence.{Sentence}
-use Rattle.pm_top.specs.Script.{IsSmallScript}
-use Rattle.pm_top.specs.Running.{accepted, RunsTo}
 use Rattle.pm_top.specs.Leaves.{IsAnswer, Writes, Leaves, DefinesText, IsDefined}
 use Rattle.pm_top.proofs.Answering.{one_answer, says_truth}
 use Rattle.pm_top.proofs.RunAnswers.{one_run_answer, accepted_done, run_truth}
@@ -73,12 +73,12 @@ writes_of command input old new status.ReadFault a w = absurd a
 writes_of command input old new status.WriteFault a w = absurd a
 writes_of command input old new status.Memory a w = absurd a
 
-accepted_answer : (command : Option Command) (bytes : List ℕ) (r : Status) (text : List ℕ) → Defines command (Some bytes) r text → command ≡ Some Run → (ss : List (ℕ × Sentence)) (l : Option (List ℕ × Formula)) → IsSmallScript bytes ss → RunsTo (length bytes) ss (accepted l) → r ≡ status.Done
-accepted_answer _ bytes _ _ (usage _) e ss l is h = absurd cc
-accepted_answer _ bytes r text (answer Check _ xs _ _ told short a) e ss l is h = absurd cc
-accepted_answer _ bytes r text (answer Run _ xs _ _ told short a) e ss l is h = accepted_done bytes r text (subst (λ (b : List ℕ). Runs b r text) (sym told) a) ss l is h
-accepted_answer _ bytes _ _ (too_long Check _ long) e ss l is h = absurd cc
-accepted_answer _ bytes _ _ (too_long Run _ long) e ss l is h = let short = is.short in absurd (omega (arith, short, long))
+accepted_answer : (command : Option Command) (bytes : List ℕ) (r : Status) (text : List ℕ) → Defines command (Some bytes) r text → command ≡ Some Run → length bytes ≤ limit → (preds : List Pred) (lemmas : List Statement) → RunsTo bytes (accepted preds lemmas) → r ≡ status.Done
+accepted_answer _ bytes _ _ (usage _) e short preds lemmas h = absurd cc
+accepted_answer _ bytes r text (answer Check _ xs _ _ told few a) e short preds lemmas h = absurd cc
+accepted_answer _ bytes r text (answer Run _ xs _ _ told few a) e short preds lemmas h = accepted_done bytes r text (subst (λ (b : List ℕ). Runs b r text) (sym told) a) preds lemmas h
+accepted_answer _ bytes _ _ (too_long Check _ long) e short preds lemmas h = absurd cc
+accepted_answer _ bytes _ _ (too_long Run _ long) e short preds lemmas h = absurd (omega (arith, short, long))
 
 pub is_defined : (command : Option Command) (input old new : Option (List ℕ)) (r : Status) → Leaves command input old new r → IsDefined command input old new r
 is_defined command input old new r l = record {
@@ -87,10 +87,10 @@ is_defined command input old new r l = record {
       let told : Defines command (Some bytes) r w.text = subst (λ (i : Option (List ℕ)). Defines command i r w.text) is w.defined in
       let same = same_defined command bytes r s w.text text told (subst (λ (i : Option (List ℕ)). Defines command i s text) is d) in
       (same.0, λ h. subst (λ (t : List ℕ). Appends old new t) (same.1 h) w.appended);
-  accepts = λ bytes is e ss lemma small runs a.
+  accepts = λ bytes is e short preds lemmas runs a.
       let w = writes_of command input old new r a l in
       let told : Defines command (Some bytes) r w.text = subst (λ (i : Option (List ℕ)). Defines command i r w.text) is w.defined in
-      accepted_answer command bytes r w.text told e ss lemma small runs;
+      accepted_answer command bytes r w.text told e short preds lemmas runs;
 }
 
 -- what a run of this command leaves
@@ -98,12 +98,12 @@ pub at_command : (command other : Option Command) (input old new : Option (List 
 at_command command other input old new r e l = subst (λ (c : Option Command). Leaves c input old new r) (sym e) l
 
 -- what is accepted is true
-told_truth : (command : Option Command) (bytes : List ℕ) (text : List ℕ) → Defines command (Some bytes) status.Done text → SaysTrue command bytes
-told_truth _ bytes text (answer Check _ xs _ _ told short a) = says_truth bytes status.Done text refl (subst (λ (b : List ℕ). Checks b status.Done text) (sym told) a)
-told_truth _ bytes text (answer Run _ xs _ _ told short a) = run_truth bytes status.Done text refl (subst (λ (b : List ℕ). Runs b status.Done text) (sym told) a)
+told_truth : (command : Option Command) (bytes : List ℕ) (old new : Option (List ℕ)) (text : List ℕ) → Defines command (Some bytes) status.Done text → Appends old new text → SaysTrue command old new bytes
+told_truth _ bytes old new text (answer Check _ xs _ _ told short a) w = says_truth bytes status.Done text refl (subst (λ (b : List ℕ). Checks b status.Done text) (sym told) a)
+told_truth _ bytes old new text (answer Run _ xs _ _ told short a) w = run_truth bytes old new status.Done text refl w (subst (λ (b : List ℕ). Runs b status.Done text) (sym told) a)
 
-pub leaves_truth : (command : Option Command) (input old new : Option (List ℕ)) (r : Status) → Leaves command input old new r → r ≡ status.Done → IfTold input (SaysTrue command)
+pub leaves_truth : (command : Option Command) (input old new : Option (List ℕ)) (r : Status) → Leaves command input old new r → r ≡ status.Done → IfTold input (SaysTrue command old new)
 leaves_truth command None old new r l e = tt
 leaves_truth command (Some bytes) old new r l e =
     let w : Writes command (Some bytes) status.Done old new = subst (λ (q : Status). Leaves command (Some bytes) old new q) e l in
-    told_truth command bytes w.text w.defined
+    told_truth command bytes old new w.text w.defined w.appended

@@ -1,5 +1,5 @@
 -- The checker's faults: what they name, and the lines for them.
-use Rattle.std.proofs.Common.{◌≡◌, ℕ, ◌-◌, List, length, sym, ap, subst, subst₂, arith, Option, Some, inl, inr, Result, Ok, Err}
+use Rattle.std.proofs.Common.{◌≡◌, ℕ, ◌-◌, List, sym, ap, subst, subst₂, arith, Option, Some, inl, inr, Result, Ok, Err}
 use Rattle.std.specs.Prelude.{slice_get}
 use Rattle.pm_rules.specs.declared.rules.Unmet.{Unmet}
 use Rattle.pm_rules.specs.declared.rules.Rule.{Rule}
@@ -16,7 +16,9 @@ use Rattle.pm_check.specs.Answers.{IfTold, IsTooLong, Judges, WasJudged, IsCheck
 use Rattle.pm_top.specs.declared.command.Command.TheVariants.{Check}
 use Rattle.pm_top.specs.declared.status.Status.{Status}
 use Rattle.pm_top.specs.declared.status.Status.TheVariants as status
-use Rattle.pm_top.specs.Answers.{text_or_none, rule_text, accepted_line, offence_line, offence_status, Checks.accepts, Checks.refuses, Defines}
+use Rattle.pm_top.specs.Printed.{accepted_text, AreShallow}
+use Rattle.pm_top.proofs.Shallow.{derived_shallow}
+use Rattle.pm_top.specs.Answers.{text_or_none, rule_text, offence_line, offence_status, Checks.accepts, Checks.refuses, Defines}
 use Rattle.pm_top.specs.Leaves.{IsAnswer}
 use Rattle.pm_top.specs.Offences.{IsNamed, NamesRule, IsTold}
 
@@ -176,7 +178,12 @@ defines_fault input fault.Memory c told = absurd told
 pub defines_told : (input : Option (List ℕ)) (r : Result Checked CheckFault) (f : CheckFault) (s : Status) (text : List ℕ) → r ≡ Err f → IsChecked input r → IsTold f → s ≡ offence_status f → text ≡ offence_line f → Defines (Some Check) input s text
 defines_told input r f s text e c told es et = subst₂ (λ x y. Defines (Some Check) input x y) (sym es) (sym et) (defines_fault input f (subst (IsChecked input) e c) told)
 
-pub defines_accepted : (input : Option (List ℕ)) (r : Result Checked CheckFault) (c : Checked) (text : List ℕ) → r ≡ Ok c → IsChecked input r → text ≡ accepted_line (length c.statements) → Defines (Some Check) input status.Done text
+pub defines_accepted : (input : Option (List ℕ)) (r : Result Checked CheckFault) (c : Checked) (text : List ℕ) → r ≡ Ok c → IsChecked input r → text ≡ accepted_text c.preds c.statements → Defines (Some Check) input status.Done text
 defines_accepted input r c text e h et =
     let w : WasJudged input (Ok c) = subst (IsChecked input) e h in
-    subst (λ (t : List ℕ). Defines (Some Check) input status.Done t) (sym et) (Defines.answer Check input w.bytes status.Done (accepted_line (length c.statements)) w.told w.short (accepts c.preds c.statements w.judges))
+    subst (λ (t : List ℕ). Defines (Some Check) input status.Done t) (sym et) (Defines.answer Check input w.bytes status.Done (accepted_text c.preds c.statements) w.told w.short (accepts c.preds c.statements w.judges))
+
+pub accepted_shallow : (input : Option (List ℕ)) (r : Result Checked CheckFault) (c : Checked) → r ≡ Ok c → IsChecked input r → AreShallow c.preds c.statements
+accepted_shallow input r c e h =
+    let w : WasJudged input (Ok c) = subst (IsChecked input) e h in
+    derived_shallow w.bytes c.preds c.statements w.judges

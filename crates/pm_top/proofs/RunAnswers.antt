@@ -1,29 +1,27 @@
--- What `run` answers to an input: there is one status, one line of a refusal, and the lemma is true.
-use Rattle.std.proofs.Common.{◌≡◌, ℕ, List, [], ◌∷◌, ◌++◌, length, append_assoc, refl, sym, ◌∙◌, ap, subst, Option, Some, None}
+-- What `run` answers to an input: there is one status, one line where a script isn't accepted, and the lemmas are true.
+use Rattle.std.proofs.Common.{◌≡◌, ℕ, ◌≤◌, List, length, [], ◌∷◌, ◌++◌, append_assoc, refl, sym, ◌∙◌, ap, subst, Option, Some}
 use Rattle.std.specs.Prelude.{codes}
 use Rattle.std.specs.Fmt.{decimal}
-use Rattle.pm_logic.specs.declared.formula.Formula.{Formula}
-use Rattle.pm_logic.specs.Scope.{no_predicates}
+use Rattle.std.specs.Io.KnownBytes.{Appends}
+use Rattle.pm_logic.specs.declared.formula.Pred.{Pred}
+use Rattle.pm_check.specs.declared.checked.Statement.{Statement}
 use Rattle.pm_check.proofs.Truth.{statements_true}
-use Rattle.pm_top.specs.declared.row.Row.{Row}
-use Rattle.pm_top.specs.declared.running.Run.{Run}
-use Rattle.pm_top.specs.declared.running.Run.TheVariants as made
+use Rattle.pm_terms.specs.declared.fault.TextFault.{TextFault}
+use Rattle.pm_run.specs.declared.row.Refusal.{Refusal}
+use Rattle.pm_run.specs.declared.ran.Ran.{Ran}
+use Rattle.pm_run.specs.declared.ran.Ran.TheVariants as ran
+use Rattle.pm_run.specs.Coming.{ComesTo}
+use Rattle.pm_run.specs.Runs.{Outcome, accepted, refused, unreadable, RunsTo}
 use Rattle.pm_top.specs.declared.status.Status.{Status}
 use Rattle.pm_top.specs.declared.status.Status.TheVariants as status
 use Rattle.pm_top.specs.declared.command.Command.TheVariants as command
-use Rattle.pm_top.specs.Sentence.{Sentence}
-use Rattle.pm_top.specs.Script.{IsSmallScript}
-use Rattle.pm_top.specs.Running.{Outcome, accepted, refused, RunsTo}
-use Rattle.pm_top.specs.RunTexts.{row_text, name_text, refusal_line, stated}
-use Rattle.pm_top.specs.Runs.{ComesTo, RunAnswer}
-use Rattle.pm_top.specs.Answers.{unreadable_line, Runs, Runs.proves, Runs.refuses, Runs.unreadable}
+use Rattle.pm_top.specs.RunTexts.{row_text, name_text, refusal_line, fault_line}
+use Rattle.pm_top.specs.Answers.{longest_derivation, Runs, Runs.proves, Runs.refuses, Runs.is_unreadable}
 use Rattle.pm_top.specs.Leaves.{DefinesText}
 use Rattle.pm_top.specs.Truth.{ProvesTruth}
-use Rattle.pm_top.proofs.OneRun.{runs_once}
-use Rattle.pm_top.proofs.Proved.{derives_nothing, derives_proved, nothing_short, proved_short}
-use Rattle.pm_top.proofs.ScriptLaws.{one_script}
+use Rattle.pm_run.proofs.OneRun.{runs_are_one}
 
--- ---- from what a run comes to, to the answer
+-- ---- the line of a refusal
 
 glue : (a d b e c r n z : List ℕ) → a ++ (d ++ (b ++ (e ++ c))) ++ r ++ n ++ z ≡ a ++ (d ++ (b ++ (e ++ (c ++ (r ++ (n ++ z))))))
 glue a d b e c r n z =
@@ -31,68 +29,75 @@ glue a d b e c r n z =
     append_assoc (a ++ (d ++ (b ++ (e ++ c))) ++ r) n z ∙ append_assoc (a ++ (d ++ (b ++ (e ++ c)))) r (n ++ z) ∙ append_assoc a (d ++ (b ++ (e ++ c))) more
     ∙ ap (λ (x : List ℕ). a ++ x) (append_assoc d (b ++ (e ++ c)) more ∙ ap (λ (x : List ℕ). d ++ x) (append_assoc b (e ++ c) more ∙ ap (λ (x : List ℕ). b ++ x) (append_assoc e c more)))
 
-pub spelled : (n at : ℕ) (row : Row) (name : Option (List ℕ)) (place first second third : List ℕ) → place ≡ codes "refused: sentence " ++ (decimal n ++ (codes " at " ++ (decimal at ++ codes ": "))) → first ≡ place ++ row_text row → second ≡ first ++ name_text name → third ≡ second ++ 10 ∷ [] → third ≡ refusal_line n at row name
-spelled n at row name place first second third e f g h =
+pub spelled : (n at : ℕ) (refusal : Refusal) (place first second third : List ℕ) → place ≡ codes "refused: sentence " ++ (decimal n ++ (codes " at " ++ (decimal at ++ codes ": "))) → first ≡ place ++ row_text refusal.row → second ≡ first ++ name_text refusal.name → third ≡ second ++ 10 ∷ [] → third ≡ refusal_line n at refusal
+spelled n at refusal place first second third e f g h =
     let end : List ℕ = 10 ∷ [] in
-    h ∙ ap (λ (x : List ℕ). x ++ end) (g ∙ ap (λ (x : List ℕ). x ++ name_text name) (f ∙ ap (λ (x : List ℕ). x ++ row_text row) e))
-    ∙ glue (codes "refused: sentence ") (decimal n) (codes " at ") (decimal at) (codes ": ") (row_text row) (name_text name) end
-
-pub unreadable_script : (bytes line : List ℕ) → ((ss : List (ℕ × Sentence)) → ¬ IsSmallScript bytes ss) → line ≡ unreadable_line → Runs bytes status.Unreadable line
-unreadable_script bytes line none e = subst (λ (t : List ℕ). Runs bytes status.Unreadable t) (sym e) (unreadable none)
-
-pub answered : (bytes : List ℕ) (ss : List (ℕ × Sentence)) (r : Run) (x : Status × List ℕ) → IsSmallScript bytes ss → ComesTo (length bytes) ss r → RunAnswer ss r x → Runs bytes x.0 x.1
-answered bytes ss made.Nothing x small come e = subst (λ (s : Status). Runs bytes s x.1) (sym e.0) (proves ss None x.1 small come.outcome (nothing_short x.1 e.1) (derives_nothing x.1 e.1))
-answered bytes ss (made.Proved goal place) x small come e = subst (λ (s : Status). Runs bytes s x.1) (sym e.0) (proves ss _ x.1 small come.outcome (proved_short bytes ss _ goal place x.1 small come.outcome come.proof come.few e.1) (derives_proved bytes ss _ goal place x.1 small come.outcome come.proof e.1))
-answered bytes ss (made.Refused n at row name) x small come e =
-    subst (λ (s : Status). Runs bytes s x.1) (sym e.0) (subst (λ (t : List ℕ). Runs bytes status.Refused t) (sym e.1) (refuses ss n at row name small come.outcome))
+    h ∙ ap (λ (x : List ℕ). x ++ end) (g ∙ ap (λ (x : List ℕ). x ++ name_text refusal.name) (f ∙ ap (λ (x : List ℕ). x ++ row_text refusal.row) e))
+    ∙ glue (codes "refused: sentence ") (decimal n) (codes " at ") (decimal at) (codes ": ") (row_text refusal.row) (name_text refusal.name) end
 
 -- ---- one answer
 
-one_outcome : (bytes : List ℕ) (ss us : List (ℕ × Sentence)) (o p : Outcome) → IsSmallScript bytes ss → IsSmallScript bytes us → RunsTo (length bytes) ss o → RunsTo (length bytes) us p → o ≡ p
-one_outcome bytes ss us o p is is' h k = runs_once (length bytes) ss o p h (subst (λ (x : List (ℕ × Sentence)). RunsTo (length bytes) x p) (one_script bytes us ss is' is) k)
-
-not_refused : (l : Option (List ℕ × Formula)) (n at : ℕ) (row : Row) (name : Option (List ℕ)) → accepted l ≡ refused n at row name → ⊥
-not_refused l n at row name e = absurd cc
+abbrev status_of : Outcome → Status
+status_of (accepted preds lemmas) = status.Done
+status_of (refused n at refusal) = status.Refused
+status_of (unreadable fault) = status.Unreadable
 
 abbrev line_of : Outcome → List ℕ
-line_of (accepted l) = []
-line_of (refused n at row name) = refusal_line n at row name
+line_of (accepted preds lemmas) = []
+line_of (refused n at refusal) = refusal_line n at refusal
+line_of (unreadable fault) = fault_line fault
+
+-- what a script came to, which tells the status, and the text where it isn't accepted
+record Came (bytes : List ℕ) (s : Status) (text : List ℕ) : Type 0 where
+  outcome : Outcome
+  runs : RunsTo bytes outcome
+  told : s ≡ status_of outcome
+  line : DefinesText (Some command.Run) s → text ≡ line_of outcome
+
+came : (bytes : List ℕ) (s : Status) (text : List ℕ) → Runs bytes s text → Came bytes s text
+came bytes _ text (proves _ p few) = record { outcome = accepted p.preds.list p.lemmas; runs = p.runs; told = refl; line = λ no. absurd no }
+came bytes _ _ (refuses n at refusal h) = record { outcome = refused n at refusal; runs = h; told = refl; line = λ t. refl }
+came bytes _ _ (is_unreadable fault h) = record { outcome = unreadable fault; runs = h; told = refl; line = λ t. refl }
 
 abbrev Same : Status → List ℕ → Status → List ℕ → Type 0
 Same s text r line = (s ≡ r) × (DefinesText (Some command.Run) r → text ≡ line)
 
 pub one_run_answer : (bytes : List ℕ) (s r : Status) (text line : List ℕ) → Runs bytes s text → Runs bytes r line → Same s text r line
-one_run_answer bytes _ _ text line (proves ss l _ is h fits d) (proves us l' _ is' h' fits' d') = (refl, λ no. absurd no)
-one_run_answer bytes _ _ text _ (proves ss l _ is h fits d) (refuses us n at row name is' h') = absurd (not_refused l n at row name (one_outcome bytes ss us (accepted l) (refused n at row name) is is' h h'))
-one_run_answer bytes _ _ text _ (proves ss l _ is h fits d) (unreadable none) = absurd (none ss is)
-one_run_answer bytes _ _ _ line (refuses ss n at row name is h) (proves us l _ is' h' fits d) = absurd (not_refused l n at row name (sym (one_outcome bytes ss us (refused n at row name) (accepted l) is is' h h')))
-one_run_answer bytes _ _ _ _ (refuses ss n at row name is h) (refuses us m there why who is' h') = (refl, λ t. ap line_of (one_outcome bytes ss us (refused n at row name) (refused m there why who) is is' h h'))
-one_run_answer bytes _ _ _ _ (refuses ss n at row name is h) (unreadable none) = absurd (none ss is)
-one_run_answer bytes _ _ _ line (unreadable none) (proves ss l _ is h fits d) = absurd (none ss is)
-one_run_answer bytes _ _ _ _ (unreadable none) (refuses ss n at row name is h) = absurd (none ss is)
-one_run_answer bytes _ _ _ _ (unreadable none) (unreadable none') = (refl, λ t. refl)
+one_run_answer bytes s r text line h k =
+    let a = came bytes s text h in
+    let b = came bytes r line k in
+    let one : a.outcome ≡ b.outcome = runs_are_one bytes a.outcome b.outcome a.runs b.runs in
+    let same : s ≡ r = a.told ∙ ap status_of one ∙ sym b.told in
+    (same, λ t. a.line (subst (DefinesText (Some command.Run)) (sym same) t) ∙ ap line_of one ∙ sym (b.line t))
 
 -- where no sentence is refused the answer is success
-pub accepted_done : (bytes : List ℕ) (r : Status) (text : List ℕ) → Runs bytes r text → (ss : List (ℕ × Sentence)) (l : Option (List ℕ × Formula)) → IsSmallScript bytes ss → RunsTo (length bytes) ss (accepted l) → r ≡ status.Done
-accepted_done bytes _ text (proves us k _ is h fits d) ss l is' h' = refl
-accepted_done bytes _ _ (refuses us n at row name is h) ss l is' h' = absurd (not_refused l n at row name (sym (one_outcome bytes us ss (refused n at row name) (accepted l) is is' h h')))
-accepted_done bytes _ _ (unreadable none) ss l is' h' = absurd (none ss is')
+pub accepted_done : (bytes : List ℕ) (r : Status) (text : List ℕ) → Runs bytes r text → (preds : List Pred) (lemmas : List Statement) → RunsTo bytes (accepted preds lemmas) → r ≡ status.Done
+accepted_done bytes r text h preds lemmas k =
+    let a = came bytes r text h in
+    a.told ∙ ap status_of (runs_are_one bytes a.outcome (accepted preds lemmas) a.runs k)
 
--- ---- the lemma is true
+-- ---- the lemmas are true
 
-abbrev lemma_of : Outcome → Option (List ℕ × Formula)
-lemma_of (accepted l) = l
-lemma_of (refused n at row name) = None
-
-proves_truth : (bytes text : List ℕ) → Runs bytes status.Done text → ProvesTruth bytes
-proves_truth bytes text (proves ss None _ is h fits d) = record { sentences = ss; lemma = None; script = is; runs = h; holds = tt }
-proves_truth bytes text (proves ss (Some (name, f)) _ is h fits d) = record {
-  sentences = ss;
-  lemma = Some (name, f);
-  script = is;
-  runs = h;
-  holds = (statements_true text no_predicates (stated (Some (name, f))) d).0;
+pub run_truth : (bytes : List ℕ) (old new : Option (List ℕ)) (s : Status) (text : List ℕ) → s ≡ status.Done → Appends old new text → Runs bytes s text → ProvesTruth bytes old new
+run_truth bytes old new _ text e w (proves _ p few) = record {
+  preds = p.preds;
+  lemmas = p.lemmas;
+  runs = p.runs;
+  text = text;
+  derivation = p.derivation;
+  appended = w;
+  each = statements_true text p.preds p.lemmas p.derivation;
 }
+run_truth bytes old new _ _ e w (refuses n at refusal h) = absurd cc
+run_truth bytes old new _ _ e w (is_unreadable fault h) = absurd cc
 
-pub run_truth : (bytes : List ℕ) (s : Status) (text : List ℕ) → s ≡ status.Done → Runs bytes s text → ProvesTruth bytes
-run_truth bytes s text e h = proves_truth bytes text (subst (λ (x : Status). Runs bytes x text) e h)
+-- ---- from what the run gives
+
+pub ran_accepted : (bytes : List ℕ) (r : Ran) (text : List ℕ) → ComesTo bytes r → r ≡ ran.Accepted text → length text ≤ longest_derivation → Runs bytes status.Done text
+ran_accepted bytes r text h e few = proves text (subst (ComesTo bytes) e h) few
+
+pub ran_refused : (bytes : List ℕ) (r : Ran) (n at : ℕ) (refusal : Refusal) (line : List ℕ) → ComesTo bytes r → r ≡ ran.Refused n at refusal → line ≡ refusal_line n at refusal → Runs bytes status.Refused line
+ran_refused bytes r n at refusal line h e same = subst (Runs bytes status.Refused) (sym same) (refuses n at refusal (subst (ComesTo bytes) e h))
+
+pub ran_unreadable : (bytes : List ℕ) (r : Ran) (fault : TextFault) (line : List ℕ) → ComesTo bytes r → r ≡ ran.Unreadable fault → line ≡ fault_line fault → Runs bytes status.Unreadable line
+ran_unreadable bytes r fault line h e same = subst (Runs bytes status.Unreadable) (sym same) (is_unreadable fault (subst (ComesTo bytes) e h))

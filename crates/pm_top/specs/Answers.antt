@@ -5,7 +5,6 @@ use Rattle.std.specs.Str.{bytes_eq}
 use Rattle.std.specs.String.{string_bytes}
 use Rattle.std.specs.declared.string.String.{String}
 use Rattle.std.specs.declared.alloc.Global.{Global}
-use Rattle.pm_logic.specs.declared.formula.Formula.{Formula}
 use Rattle.pm_logic.specs.declared.formula.Preds.{Preds}
 use Rattle.pm_dtext.specs.Texts.{printed_names}
 use Rattle.pm_check.specs.declared.checked.Statement.{Statement}
@@ -14,11 +13,12 @@ use Rattle.pm_check.specs.declared.fault.CheckFault.TheVariants as offence
 use Rattle.pm_check.specs.Derivation.{IsDerivation}
 use Rattle.pm_check.specs.Offence.{FirstOffence}
 use Rattle.pm_check.specs.Answers.{IsTooLong, IfTold}
-use Rattle.pm_top.specs.declared.row.Row.{Row}
-use Rattle.pm_top.specs.Sentence.{Sentence}
-use Rattle.pm_top.specs.Script.{IsSmallScript}
-use Rattle.pm_top.specs.Running.{accepted, refused, RunsTo}
-use Rattle.pm_top.specs.RunTexts.{refusal_line, Derives}
+use Rattle.pm_terms.specs.declared.fault.TextFault.{TextFault}
+use Rattle.pm_run.specs.declared.row.Refusal.{Refusal}
+use Rattle.pm_run.specs.Runs.{refused, unreadable, RunsTo}
+use Rattle.pm_run.specs.Coming.{limit, Proves}
+use Rattle.pm_top.specs.Printed.{line_feed, accepted_text}
+use Rattle.pm_top.specs.RunTexts.{refusal_line, fault_line}
 use Rattle.pm_top.specs.declared.command.Command.{Command}
 use Rattle.pm_top.specs.declared.command.Command.TheVariants.{Check, Run}
 use Rattle.pm_top.specs.declared.status.Status.{Status}
@@ -32,12 +32,6 @@ command_of (w ∷ []) = if bytes_eq (string_bytes w) (codes "check") then Some C
 command_of _ = None
 
 -- ---- the lines that are written, each with its line feed
-
-abbrev pub line_feed : List ℕ
-line_feed = 10 ∷ []
-
-abbrev pub accepted_line : ℕ → List ℕ
-accepted_line n = codes "accepted: " ++ (decimal n ++ (codes " statements" ++ line_feed))
 
 abbrev pub text_or_none : Option (List ℕ) → List ℕ
 text_or_none (Some text) = text
@@ -68,10 +62,6 @@ offence_status offence.Long = status.TooLong
 offence_status offence.Read = status.ReadFault
 offence_status offence.Memory = status.Memory
 
--- the line for what is no small script
-abbrev pub unreadable_line : List ℕ
-unreadable_line = codes "unreadable" ++ line_feed
-
 abbrev pub too_long_line : List ℕ
 too_long_line = codes "too long" ++ line_feed
 
@@ -80,20 +70,20 @@ usage_line = codes "usage: mosel run | check | session | goals | selftest N" ++ 
 
 -- ---- the answers
 
--- what `check` answers to an input, and the line that it writes for it
+-- what `check` answers to an input, and what it writes for it
 pub data Checks (bytes : List ℕ) : Status → List ℕ → Type 0 where
-  accepts : (preds : Preds) (statements : List Statement) → IsDerivation bytes preds statements → Checks bytes status.Done (accepted_line (length statements))
+  accepts : (preds : Preds) (statements : List Statement) → IsDerivation bytes preds statements → Checks bytes status.Done (accepted_text preds statements)
   refuses : (f : CheckFault) → FirstOffence bytes f → Checks bytes (offence_status f) (offence_line f)
 
--- the longest script
-abbrev pub limit : ℕ
-limit = 16777216
+-- the longest derivation that `check` reads
+abbrev pub longest_derivation : ℕ
+longest_derivation = 2 ^ 63
 
--- what `run` answers to an input, and what it writes for it: a derivation of exactly the script's lemma, no longer than a script, or a line
+-- what `run` answers to an input, and what it writes for it: a derivation of exactly the script's lemmas, no longer than `check` reads, or a line
 pub data Runs (bytes : List ℕ) : Status → List ℕ → Type 0 where
-  proves : (ss : List (ℕ × Sentence)) (lemma : Option (List ℕ × Formula)) (text : List ℕ) → IsSmallScript bytes ss → RunsTo (length bytes) ss (accepted lemma) → length text ≤ limit → Derives text lemma → Runs bytes status.Done text
-  refuses : (ss : List (ℕ × Sentence)) (sentence offset : ℕ) (row : Row) (name : Option (List ℕ)) → IsSmallScript bytes ss → RunsTo (length bytes) ss (refused sentence offset row name) → Runs bytes status.Refused (refusal_line sentence offset row name)
-  unreadable : ((ss : List (ℕ × Sentence)) → ¬ IsSmallScript bytes ss) → Runs bytes status.Unreadable unreadable_line
+  proves : (text : List ℕ) → Proves bytes text → length text ≤ longest_derivation → Runs bytes status.Done text
+  refuses : (number offset : ℕ) (refusal : Refusal) → RunsTo bytes (refused number offset refusal) → Runs bytes status.Refused (refusal_line number offset refusal)
+  is_unreadable : (fault : TextFault) → RunsTo bytes (unreadable fault) → Runs bytes status.Unreadable (fault_line fault)
 
 abbrev pub Answers : Command → List ℕ → Status → List ℕ → Type 0
 Answers Check bytes s text = Checks bytes s text
@@ -101,7 +91,7 @@ Answers Run bytes s text = Runs bytes s text
 
 -- the longest input that the command answers; more than a check's longest is never held in memory
 abbrev pub longest : Command → ℕ
-longest Check = 2 ^ 63
+longest Check = longest_derivation
 longest Run = limit
 
 -- an input that the command gives up on

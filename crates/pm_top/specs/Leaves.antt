@@ -1,15 +1,15 @@
 -- What a run leaves: at the sink by its status, and of the source.
-use Rattle.std.specs.Prelude.{◌≡◌, ◌⊎◌, ℕ, List, length, Option, Some, IsSome, ⊤}
+use Rattle.std.specs.Prelude.{◌≡◌, ◌⊎◌, ℕ, ◌≤◌, List, length, Option, Some, IsSome, ⊤}
 use Rattle.std.specs.Io.KnownBytes.{Appends, Keeps}
 use Rattle.pm_io.specs.Taken.{AppendsFront}
 use Rattle.pm_top.specs.declared.command.Command.{Command}
 use Rattle.pm_top.specs.declared.command.Command.TheVariants.{Run}
 use Rattle.pm_top.specs.declared.status.Status.{Status}
 use Rattle.pm_top.specs.declared.status.Status.TheVariants as status
-use Rattle.pm_logic.specs.declared.formula.Formula.{Formula}
-use Rattle.pm_top.specs.Sentence.{Sentence}
-use Rattle.pm_top.specs.Script.{IsSmallScript}
-use Rattle.pm_top.specs.Running.{accepted, RunsTo}
+use Rattle.pm_logic.specs.declared.formula.Pred.{Pred}
+use Rattle.pm_check.specs.declared.checked.Statement.{Statement}
+use Rattle.pm_run.specs.Runs.{accepted, RunsTo}
+use Rattle.pm_run.specs.Coming.{limit}
 use Rattle.pm_top.specs.Answers.{Defines}
 
 -- a status that the words and the input alone decide
@@ -43,7 +43,7 @@ Leaves command input old new status.WriteFault = WritesFront command input old n
 Leaves command input old new status.Memory = Keeps old new ⊎ WritesFront command input old new
 Leaves command input old new s = Writes command input s old new
 
--- whether the words and the input define the text too: a lemma has many derivations
+-- whether the words and the input define the text too: lemmas have many derivations
 abbrev pub DefinesText : Option Command → Status → Type 0
 DefinesText (Some Run) status.Done = ⊥
 DefinesText _ _ = ⊤
@@ -52,4 +52,4 @@ DefinesText _ _ = ⊤
 pub record IsDefined (command : Option Command) (input : Option (List ℕ)) (old new : Option (List ℕ)) (r : Status) : Type 0 where
   pub only : (bytes : List ℕ) → input ≡ Some bytes → (s : Status) (text : List ℕ) → Defines command input s text → IsAnswer r → (r ≡ s) × (DefinesText command s → Appends old new text)
   -- a script of which no sentence is refused is answered by success
-  pub accepts : (bytes : List ℕ) → input ≡ Some bytes → command ≡ Some Run → (ss : List (ℕ × Sentence)) (lemma : Option (List ℕ × Formula)) → IsSmallScript bytes ss → RunsTo (length bytes) ss (accepted lemma) → IsAnswer r → r ≡ status.Done
+  pub accepts : (bytes : List ℕ) → input ≡ Some bytes → command ≡ Some Run → length bytes ≤ limit → (preds : List Pred) (lemmas : List Statement) → RunsTo bytes (accepted preds lemmas) → IsAnswer r → r ≡ status.Done

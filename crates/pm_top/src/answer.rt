@@ -1,31 +1,22 @@
 //! The answer to an input.
 
 ghost use Rattle.std.specs.Prelude.{◌≡◌, ◌≤◌, length, IfOk};
-ghost use Rattle.pm_top.specs.Answers.{accepted_line, offence_line, unreadable_line, Runs};
+ghost use Rattle.pm_run.specs.Coming.{limit};
+ghost use Rattle.pm_top.specs.Answers.{offence_line, Runs};
 ghost use Rattle.pm_top.specs.Offences.{IsNamed, NamesRule, Tells};
-ghost use Rattle.pm_top.specs.RunTexts.{row_text, name_text, refusal_line};
-ghost use Rattle.pm_top.specs.Runs.{IsProof, RunAnswer, lemma_name};
-ghost use Rattle.pm_top.specs.ScriptReading.{sentences_of};
+ghost use Rattle.pm_top.specs.RunTexts.{row_text, name_text, refusal_line, fault_line};
 
-use crate::row::Row;
-use crate::running::{Run, run_sentences};
-use crate::script::{PlacedSentence, ReadSentence, read_script};
-use crate::script_fault::ScriptFault;
 use crate::status::Status;
-use crate::writer::{write_nothing, write_proof};
 use pm_check::CheckFault;
 use pm_dtext::rule_name;
 use pm_logic::{Bytes, Memory, Name};
 use pm_rules::Unmet;
+use pm_run::{Ran, Refusal, Row, run_script};
+use pm_terms::TextFault;
 use std::alloc::Global;
 
-/// The line of a derivation text that is accepted, with so many statements.
-pub fn accepted(alloc: Global, count: usize) -> Result<Bytes, Memory>
-    ensures { IfOk result (λ text. text ≡ accepted_line count) }
-{
-    let line = format!(in alloc; "accepted: {count} statements\n")?;
-    Bytes::from_slice(alloc, line.as_bytes())
-}
+/// How many bytes a derivation may have.
+const MOST: u64 = 1 << 63;
 
 /// The line of a proof line or statement that doesn't follow.
 #[tactic(auto, using(crate::proofs::Offences::named), unfolding(crate::specs::Answers::offence_line))]
@@ -80,30 +71,51 @@ pub fn offence(alloc: Global, fault: CheckFault) -> Result<(Status, Bytes), Stat
     }
 }
 
-/// The line for what is no small script.
-fn unreadable(alloc: Global) -> Result<Bytes, Memory>
-    ensures { IfOk result (λ text. text ≡ unreadable_line) }
+/// The line of a fault of a text. Want of memory is none, and has no line.
+#[tactic(auto, unfolding(crate::specs::RunTexts::fault_line))]
+fn unreadable(alloc: Global, fault: TextFault) -> Result<Bytes, Memory>
+    ensures { IfOk result (λ text. text ≡ fault_line fault) }
 {
-    Bytes::from_slice(alloc, b"unreadable\n")
+    let text = match fault {
+        TextFault::Unexpected(at) => format!(in alloc; "unreadable at {at}: unexpected\n")?,
+        TextFault::Unbound(at) => format!(in alloc; "unreadable at {at}: unbound\n")?,
+        TextFault::Number(at) => format!(in alloc; "unreadable at {at}: number\n")?,
+        TextFault::Fraction(at) => format!(in alloc; "unreadable at {at}: fraction\n")?,
+        TextFault::Arity(at) => format!(in alloc; "unreadable at {at}: arity\n")?,
+        TextFault::Deep(at) => format!(in alloc; "unreadable at {at}: deep\n")?,
+        TextFault::Memory => return Err(Memory),
+    };
+    Bytes::from_slice(alloc, text.as_bytes())
 }
 
+#[tactic(auto, unfolding(crate::specs::RunTexts::row_text))]
 fn row_text(row: Row) -> &'static str
     ensures { result.now ≡ row_text row }
 {
     match row {
         Row::I1 => "I1",
+        Row::I2 => "I2",
         Row::N1 => "N1",
         Row::N2 => "N2",
         Row::B5 => "B5",
         Row::Q1 => "Q1",
+        Row::Q2 => "Q2",
         Row::Q3 => "Q3",
+        Row::Q4 => "Q4",
+        Row::Q7 => "Q7",
         Row::Q9 => "Q9",
+        Row::X1 => "X1",
+        Row::X2 => "X2",
+        Row::X3 => "X3",
+        Row::X4 => "X4",
+        Row::X6 => "X6",
+        Row::X7 => "X7",
     }
 }
 
 /// A name behind its blank, if there is one.
-fn name_text(alloc: Global, name: Option<Name>) -> Result<Bytes, Memory>
-    ensures { IfOk result (λ text. text ≡ name_text name) }
+fn name_text(alloc: Global, name: &Option<Name>) -> Result<Bytes, Memory>
+    ensures { IfOk result (λ text. text ≡ name_text name.now) }
 {
     let mut text = Bytes::new(alloc);
     if let Some(name) = name {
@@ -115,78 +127,32 @@ fn name_text(alloc: Global, name: Option<Name>) -> Result<Bytes, Memory>
 
 /// The line of a sentence that is refused.
 #[tactic(auto, using(crate::proofs::RunAnswers::spelled))]
-fn refusal(
-    alloc: Global,
-    sentence: u64,
-    offset: u64,
-    row: Row,
-    name: Option<Name>,
-) -> Result<Bytes, Memory>
-    ensures { IfOk result (λ text. text ≡ refusal_line sentence offset row name) }
+fn refusal(alloc: Global, number: u64, offset: u64, refusal: &Refusal) -> Result<Bytes, Memory>
+    ensures { IfOk result (λ text. text ≡ refusal_line number offset refusal.now) }
 {
-    let place = format!(in alloc; "refused: sentence {sentence} at {offset}: ")?;
-    let name = name_text(alloc, name)?;
+    let place = format!(in alloc; "refused: sentence {number} at {offset}: ")?;
+    let name = name_text(alloc, &refusal.name)?;
     let mut line = Bytes::from_slice(alloc, place.as_bytes())?;
-    line.extend(row_text(row).as_bytes())?;
+    line.extend(row_text(refusal.row).as_bytes())?;
     line.extend(name.as_slice())?;
     line.extend(b"\n")?;
     Ok(line)
 }
 
-/// The name in the first sentence.
-fn lemma_name<'a>(sentences: &[PlacedSentence<'a>]) -> &'a [u8]
-    ensures { result.now ≡ lemma_name (sentences_of sentences.now) }
-{
-    let [first, ..] = sentences else {
-        return &[];
-    };
-    match first.sentence {
-        ReadSentence::Lemma { name, .. } => name,
-        ReadSentence::Intros(name) | ReadSentence::Exact(name) => name,
-        ReadSentence::Qed => &[],
-    }
-}
-
-/// What `run` answers to sentences of a script of `size` bytes.
-fn run_answer(
-    alloc: Global,
-    sentences: &[PlacedSentence],
-    run: Run,
-) -> Result<(Status, Bytes), Memory>
-    requires { IsProof run }
-    ensures { IfOk result (RunAnswer (sentences_of sentences.now) run) }
-{
-    match run {
-        Run::Nothing => Ok((Status::Done, write_nothing(alloc)?)),
-        Run::Proved(goal, place) => {
-            let name = lemma_name(sentences);
-            let text = write_proof(alloc, name, goal.spats.as_slice(), place, &goal.concl)?;
-            Ok((Status::Done, text))
-        }
-        Run::Refused {
-            sentence,
-            offset,
-            row,
-            name,
-        } => Ok((
-            Status::Refused,
-            refusal(alloc, sentence, offset, row, name)?,
-        )),
-    }
-}
-
 /// What `run` answers to an input within its limit, and what it writes for it.
-#[tactic(auto, using(crate::proofs::RunAnswers::unreadable_script))]
 pub fn run(alloc: Global, bytes: &[u8]) -> Result<(Status, Bytes), Memory>
-    requires { length bytes.now ≤ 16777216 }
+    requires { length bytes.now ≤ limit }
     ensures { IfOk result (λ x. Runs bytes.now x.0 x.1) }
 {
-    let script = match read_script(alloc, bytes) {
-        Ok(script) => script,
-        Err(ScriptFault::Unreadable) => return Ok((Status::Unreadable, unreadable(alloc)?)),
-        Err(ScriptFault::Memory) => return Err(Memory),
-    };
-    let sentences = script.sentences.as_slice();
-    let run = run_sentences(alloc, sentences, bytes.len() as u64)?;
-    run_answer(alloc, sentences, run)
+    match run_script(alloc, bytes)? {
+        // No list has so many bytes.
+        Ran::Accepted(text) if text.len() as u64 > MOST => Err(Memory),
+        Ran::Accepted(text) => Ok((Status::Done, text)),
+        Ran::Refused {
+            number,
+            offset,
+            refusal: why,
+        } => Ok((Status::Refused, refusal(alloc, number, offset, &why)?)),
+        Ran::Unreadable(fault) => Ok((Status::Unreadable, unreadable(alloc, fault)?)),
+    }
 }

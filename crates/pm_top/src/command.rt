@@ -8,7 +8,7 @@ ghost use Rattle.pm_top.specs.Answers.{command_of};
 pub enum Command {
     /// Reads a derivation, and says whether each line follows.
     Check,
-    /// Reads a script, and writes a derivation of its lemma.
+    /// Reads a script, and writes a derivation of its lemmas.
     Run,
 }
 

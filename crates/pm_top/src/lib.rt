@@ -1,20 +1,11 @@
-//! All that the program does: its commands over sources and sinks, and what `run` does with scripts.
+//! All that the program does: its commands over sources and sinks.
 #![tactic(auto)]
 
 mod answer;
 mod command;
+mod printed;
 mod program;
-mod row;
-mod running;
-mod script;
-mod script_fault;
-mod script_formula;
-mod script_signs;
 mod status;
-mod texts;
-mod tokens;
-mod words;
-mod writer;
 
 pub use pm_io::{
     Failed, MemSink, MemSource, SendFault, Sink, Source, StdSink, StdSource, SureSource, TakeFault,

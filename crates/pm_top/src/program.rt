@@ -9,8 +9,9 @@ ghost use Rattle.pm_top.specs.Answers.{command_of};
 ghost use Rattle.pm_top.specs.Truth.{SaysTrue};
 ghost use Rattle.pm_top.specs.Leaves.{IsAnswer, Leaves, IsDefined};
 
-use crate::answer::{accepted, offence, run};
+use crate::answer::{offence, run};
 use crate::command::{Command, command_of};
+use crate::printed::accepted;
 use crate::status::Status;
 use pm_check::check;
 use pm_io::{SendFault, Sink, Source, TakeFault, read_all, write_all};
@@ -40,7 +41,7 @@ fn check_command<S: Source, K: Sink>(alloc: Global, source: &mut S, sink: &mut K
     ensures write { Faulted (result ≡ Status.WriteFault) (K.faults sink.old) (K.faults sink.new) }
 {
     match check(alloc, source) {
-        Ok(checked) => match accepted(alloc, checked.statements.len()) {
+        Ok(checked) => match accepted(alloc, &checked) {
             Ok(text) => say(sink, Status::Done, text.as_slice()),
             Err(_) => Status::Memory,
         },
@@ -72,11 +73,12 @@ fn run_command<S: Source, K: Sink>(alloc: Global, source: &mut S, sink: &mut K) 
 }
 
 /// Does all that the program does. `words` are the words of the command line after the program's name; `source` is read
-/// and `sink` written. The answer is the status that the program ends with, and what was written then is the whole line
-/// of that status, or for `run` and `Done` a derivation of the script's lemma. `Done` says that the input was read to its
-/// end and that each of its statements is true: for `check` those of the derivation, whoever wrote it, for `run` the
-/// script's lemma. Where the words name no command nothing is read. After `WriteFault` and `Memory` a front of a text that
-/// answers the words and the input was written, or nothing, and after `ReadFault` nothing.
+/// and `sink` written. The answer is the status that the program ends with, and what was written then is the whole text of
+/// that status: for `check` and `Done` the lines of the derivation's predicates and statements and of their number, for
+/// `run` and `Done` a derivation of exactly the script's lemmas over exactly its predicates. `Done` says that the input was
+/// read to its end and that each of its statements is true: for `check` those of the derivation, whoever wrote it, for
+/// `run` the script's lemmas. Where the words name no command nothing is read. After `WriteFault` and `Memory` a front of a
+/// text that answers the words and the input was written, or nothing, and after `ReadFault` nothing.
 pub fn top<S: Source, K: Sink>(
     alloc: Global,
     words: &Vec<String>,
@@ -90,7 +92,7 @@ pub fn top<S: Source, K: Sink>(
     ensures defined { IsDefined (command_of words.now.items) (S.left source.old) (K.written sink.old) (K.written sink.new) result }
 
     // What is accepted is true, and was read to its end.
-    ensures truth { result ≡ Status.Done → IfTold (S.left source.old) (SaysTrue (command_of words.now.items)) }
+    ensures truth { result ≡ Status.Done → IfTold (S.left source.old) (SaysTrue (command_of words.now.items) (K.written sink.old) (K.written sink.new)) }
     ensures end { result ≡ Status.Done → IsReadToEnd (S.left source.old) (S.left source.new) }
 
     ensures unread { command_of words.now.items ≡ None → source.new ≡ source.old }

@@ -8,6 +8,9 @@ use std::test::Fail;
 /// One predicate, whose body is in its parameter.
 const TABLE: &str = "mosel-derivation 1\narities 1\npred p pure eq v0 0\n";
 
+/// What is written for the table where the lines follow.
+const LINES: &str = "Predicate p(_0) := ⌜_0 = 0⌝.\naccepted: 0 statements\n";
+
 /// Lines behind the table.
 fn text(alloc: Global, lines: &str) -> Result<Bytes, Memory> {
     let mut text = Bytes::from_slice(alloc, TABLE.as_bytes())?;
@@ -31,7 +34,7 @@ type Row = (&'static str, &'static str, &'static str);
 
 fn each_is_judged(rt: &impl Abort, alloc: Global, rows: &[Row]) -> Result<(), Memory> {
     for (follows, fails, line) in rows {
-        line_is(rt, alloc, follows, Status::Done, "accepted: 0 statements\n")?;
+        line_is(rt, alloc, follows, Status::Done, LINES)?;
         line_is(rt, alloc, fails, Status::Refused, line)?;
     }
     Ok(())

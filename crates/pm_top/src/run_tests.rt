@@ -5,40 +5,66 @@ use std::alloc::Global;
 use std::process::Abort;
 use std::test::Fail;
 
-/// Runs a script that is proved, and checks the derivation that was written.
-fn proves(rt: &impl Abort, alloc: Global, script: &str, line: &str) -> Result<(), Memory> {
+/// Runs a script that is accepted, and checks the derivation that was written: the lines of its predicates and lemmas.
+fn proves(rt: &impl Abort, alloc: Global, script: &str, lines: &str) -> Result<(), Memory> {
     let mut source = SureSource::new(alloc, script.as_bytes())?;
-    let mut sink = MemSink::new(alloc, 7, &[])?;
+    let mut sink = MemSink::new(alloc, 4096, &[])?;
     let words = words(alloc, "run")?;
     let got = top(alloc, &words, &mut source, &mut sink);
     assert_eq!(rt; got, Status::Done);
-    answers(rt, alloc, "check", sink.bytes(), Status::Done, line)
+    answers(rt, alloc, "check", sink.bytes(), Status::Done, lines)
+}
+
+fn refuses(rt: &impl Abort, alloc: Global, script: &str, line: &str) -> Result<(), Memory> {
+    answers(rt, alloc, "run", script.as_bytes(), Status::Refused, line)
 }
 
 #[test]
-fn a_lemma_and_its_derivation(rt: HostRuntime) -> Result<(), Fail> {
-    let script = "Lemma a : 1 ↦ 2 ⊢ 1 ↦ 2. iIntros \"H\". iExact \"H\". Qed.";
-    let text =
-        "mosel-derivation 1\narities\n1 sep-comm 0 sep pure T pts 1 720720 2 sep pts 1 720720 2 pure T\n2 sep-weaken 0 sep pts 1 720720 2 pure T pts 1 720720 2\n3 trans 0 1 2 sep pure T pts 1 720720 2 pts 1 720720 2\n4 wand-i 0 3 pure T wand pts 1 720720 2 pts 1 720720 2\nqed a 4\n";
-    answers(
-        &rt,
-        rt.alloc(),
-        "run",
-        script.as_bytes(),
-        Status::Done,
-        text,
-    )?;
-    proves(&rt, rt.alloc(), script, "accepted: 1 statements\n")?;
+fn nothing_to_prove(rt: HostRuntime) -> Result<(), Fail> {
+    let text = "mosel-derivation 1\narities\n";
+    for script in ["", " \r\n", "(* x (* y *) z *)"] {
+        answers(
+            &rt,
+            rt.alloc(),
+            "run",
+            script.as_bytes(),
+            Status::Done,
+            text,
+        )?;
+        proves(&rt, rt.alloc(), script, "accepted: 0 statements\n")?;
+    }
     Ok(())
 }
 
 #[test]
-fn no_lemma(rt: HostRuntime) -> Result<(), Fail> {
-    let text = "mosel-derivation 1\narities\n";
-    answers(&rt, rt.alloc(), "run", b"", Status::Done, text)?;
-    let blanks = vec![in rt.alloc(); b' '; 4096]?;
-    answers(&rt, rt.alloc(), "run", &blanks, Status::Done, text)?;
-    proves(&rt, rt.alloc(), "\n", "accepted: 0 statements\n")?;
+fn lemmas(rt: HostRuntime) -> Result<(), Fail> {
+    let rows = [
+        (
+            "Lemma a : 1 |-> 2 ⊢ 1 ↦ 2. iIntros \"H\". iExact \"H\". Qed.",
+            "Lemma a : 1 ↦ 2 -∗ 1 ↦ 2.\naccepted: 1 statements\n",
+        ),
+        (
+            "Lemma a : True -* True.\r\n(* x (* y *) z *)\r\nProof.\r\niIntros \"H\".\r\niExact \"H\".\r\nQed.\r\n",
+            "Lemma a : ⌜True⌝ -∗ ⌜True⌝.\naccepted: 1 statements\n",
+        ),
+        // a persistent left side of an implication, beside a hypothesis
+        (
+            "Lemma a : 1 ↦ 2 -∗ True → 1 ↦ 2. iIntros \"A\". iIntros \"B\". iExact \"A\". Qed.",
+            "Lemma a : 1 ↦ 2 -∗ ⌜True⌝ → 1 ↦ 2.\naccepted: 1 statements\n",
+        ),
+        // any left side of an implication, where there is no hypothesis
+        (
+            "Lemma a : 1 ↦ 2 → 3 ↦ 4 -∗ 3 ↦ 4. iIntros \"A\". iIntros \"B\". iExact \"B\". Qed.",
+            "Lemma a : 1 ↦ 2 → 3 ↦ 4 -∗ 3 ↦ 4.\naccepted: 1 statements\n",
+        ),
+        (
+            "Lemma a : True ⊢ True. iIntros \"H\". iExact \"H\". Qed. Lemma b : 1 ↦{2/4} 2 ⊢ 1 ↦{1/2} 2. iIntros \"H\". iExact \"H\". Qed.",
+            "Lemma a : ⌜True⌝ -∗ ⌜True⌝.\nLemma b : 1 ↦{1/2} 2 -∗ 1 ↦{1/2} 2.\naccepted: 2 statements\n",
+        ),
+    ];
+    for (script, lines) in rows {
+        proves(&rt, rt.alloc(), script, lines)?;
+    }
     Ok(())
 }
 
@@ -46,25 +72,47 @@ fn no_lemma(rt: HostRuntime) -> Result<(), Fail> {
 #[test]
 fn each_hypothesis(rt: HostRuntime) -> Result<(), Fail> {
     let intros = "iIntros \"A\". iIntros \"B\". iIntros \"C\".";
-    for (concl, name) in [("1 ↦ 2", "A"), ("True * 3 |-> -4", "B"), ("True", "C")] {
+    for (concl, name) in [("1 ↦ 2", "A"), ("3 ↦ 4 ∗ 5 ↦ 6", "B"), ("7 ↦ 8", "C")] {
+        let statement = format!(in rt.alloc(); "1 ↦ 2 -∗ 3 ↦ 4 ∗ 5 ↦ 6 -∗ 7 ↦ 8 -∗ {concl}.")?;
         let script = format!(in rt.alloc();
-            "Lemma three : 1 ↦ 2 ⊢ True * 3 ↦ -4 -* True -∗ {concl}. {intros} iExact \"{name}\". Qed."
+            "Lemma three : {statement} {intros} iExact \"{name}\". Qed."
         )?;
-        proves(&rt, rt.alloc(), &script, "accepted: 1 statements\n")?;
+        let lines = format!(in rt.alloc(); "Lemma three : {statement}\naccepted: 1 statements\n")?;
+        proves(&rt, rt.alloc(), script.as_str(), lines.as_str())?;
     }
     Ok(())
 }
 
 #[test]
-fn refusals(rt: HostRuntime) -> Result<(), Fail> {
+fn predicates(rt: HostRuntime) -> Result<(), Fail> {
+    let table = "Predicate p(x) := x ↦ 1. Predicate q(y) := p(y) ∗ ▷ q(y + 1).";
+    let lemma = "Lemma l : q(0) ⊢ q(0). iIntros \"H\". iExact \"H\". Qed.";
+    let lines =
+        "Predicate p(_0) := _0 ↦ 1.\nPredicate q(_0) := p(_0) ∗ ▷ q(_0 + 1).\nLemma l : q(0) -∗ q(0).\naccepted: 1 statements\n";
+    let script = format!(in rt.alloc(); "{table} {lemma}")?;
+    proves(&rt, rt.alloc(), script.as_str(), lines)?;
+    let later = "Lemma k : True ⊢ True. iIntros \"H\". iExact \"H\". Qed.";
+    let lines =
+        "Predicate p(_0) := _0 ↦ 1.\nPredicate q(_0) := p(_0) ∗ ▷ q(_0 + 1).\nLemma k : ⌜True⌝ -∗ ⌜True⌝.\nLemma l : q(0) -∗ q(0).\naccepted: 2 statements\n";
+    let script = format!(in rt.alloc(); "{later} {table} {lemma}")?;
+    proves(&rt, rt.alloc(), script.as_str(), lines)?;
+    Ok(())
+}
+
+#[test]
+fn goals_refused(rt: HostRuntime) -> Result<(), Fail> {
     let rows = [
-        (
-            "Lemma a : 1 ↦ 2 ⊢ 1 ↦ 2. iIntros \"H\". iExact \"K\".",
-            "refused: sentence 3 at 44: N1 K\n",
-        ),
         (
             "Lemma a : True. iIntros \"H\".",
             "refused: sentence 2 at 16: I1\n",
+        ),
+        (
+            "Lemma a : True -∗ 1 ↦ 2 → True. iIntros \"H\". iIntros \"K\".",
+            "refused: sentence 3 at 51: I2\n",
+        ),
+        (
+            "Lemma a : 1 |-> 2 |- 1 |-> 2. iIntros \"H\". iExact \"K\".",
+            "refused: sentence 3 at 43: N1 K\n",
         ),
         (
             "Lemma a : True -* True -* True. iIntros \"H\". iIntros \"H\".",
@@ -78,56 +126,143 @@ fn refusals(rt: HostRuntime) -> Result<(), Fail> {
             "Lemma a : 1 |-> 2 -* True. iIntros \"H\". iExact \"H\".",
             "refused: sentence 3 at 40: B5\n",
         ),
-        ("Qed.", "refused: sentence 1 at 0: Q1\n"),
-        (
-            "Lemma a : True -* True. iIntros \"H\". iExact \"H\". Qed. Qed.",
-            "refused: sentence 5 at 54: Q1\n",
-        ),
-        ("Lemma a : True.", "refused: sentence 2 at 15: Q3\n"),
-        ("Lemma a : True. Qed.", "refused: sentence 2 at 16: Q3\n"),
-        (
-            "Lemma a : True -* True. iIntros \"H\". iExact \"H\".",
-            "refused: sentence 4 at 48: Q3\n",
-        ),
         (
             "Lemma a : True -* True. iIntros \"H\". iExact \"H\". iExact \"H\".",
             "refused: sentence 4 at 49: Q9\n",
         ),
+        ("Lemma a : True. Qed.", "refused: sentence 2 at 16: Q3\n"),
+        ("Lemma a : True.", "refused: sentence 2 at 15: Q3\n"),
+        (
+            "Lemma a : True -* True. iIntros \"H\". iExact \"H\".",
+            "refused: sentence 4 at 48: Q3\n",
+        ),
     ];
     for (script, line) in rows {
-        let script = script.as_bytes();
-        answers(&rt, rt.alloc(), "run", script, Status::Refused, line)?;
+        refuses(&rt, rt.alloc(), script, line)?;
     }
     Ok(())
 }
 
 #[test]
-fn unreadable_scripts(rt: HostRuntime) -> Result<(), Fail> {
-    let line = "unreadable\n";
-    let scripts: [&[u8]; 8] = [
-        b"Lemma a : 1.",
-        b"Qed",
-        b"Qed.Qed.",
-        b"(* *)",
-        b"Lemma a : True. Lemma b : True.",
-        b"iExact \"K\". Lemma a : 1 |->{1/2} 2.",
-        b"Lemma a : \xff.",
-        b"Lemma forall : True.",
+fn sentences_refused(rt: HostRuntime) -> Result<(), Fail> {
+    let rows = [
+        ("Qed.", "refused: sentence 1 at 0: Q1\n"),
+        (" Proof.", "refused: sentence 1 at 1: Q1\n"),
+        ("iExact \"H\".", "refused: sentence 1 at 0: Q1\n"),
+        (
+            "Lemma a : True. Lemma b : True.",
+            "refused: sentence 2 at 16: Q2\n",
+        ),
+        (
+            "Lemma a : True. Predicate p() := True.",
+            "refused: sentence 2 at 16: Q2\n",
+        ),
+        (
+            "Lemma a : True -* True. iIntros \"H\". iExact \"H\". Qed. Lemma a : True.",
+            "refused: sentence 5 at 54: Q4 a\n",
+        ),
+        (
+            "Predicate p() := True. Predicate p() := True.",
+            "refused: sentence 2 at 23: Q4 p\n",
+        ),
+        (
+            "Predicate p() := True. Lemma p : True.",
+            "refused: sentence 2 at 23: Q4 p\n",
+        ),
+        (
+            "Predicate p() := p() -* False.",
+            "refused: sentence 1 at 0: Q7 p\n",
+        ),
     ];
-    for script in scripts {
-        answers(&rt, rt.alloc(), "run", script, Status::Unreadable, line)?;
+    for (script, line) in rows {
+        refuses(&rt, rt.alloc(), script, line)?;
     }
     Ok(())
 }
 
-#[test]
-fn long_scripts(rt: HostRuntime) -> Result<(), Fail> {
-    for (length, status, line) in [
-        (4097, Status::Unreadable, "unreadable\n"),
-        (16_777_217, Status::TooLong, "too long\n"),
-    ] {
-        let script = vec![in rt.alloc(); b' '; length]?;
-        answers(&rt, rt.alloc(), "run", &script, status, line)?;
+/// A star of so many truths, from 1,024 to 2,047, of few levels.
+fn star(alloc: Global, count: u32) -> Result<String, Memory> {
+    let mut text = String::from_str(alloc, "True")?;
+    for bit in (0..10u32).rev() {
+        text = format!(in alloc; "({text} ∗ {text})")?;
+        if (count >> bit) & 1 == 1 {
+            text = format!(in alloc; "({text} ∗ True)")?;
+        }
     }
+    Ok(text)
+}
+
+/// The lemma of such a star has three nodes a truth, but for one.
+#[test]
+fn large_goals(rt: HostRuntime) -> Result<(), Fail> {
+    let large = star(rt.alloc(), 1334)?;
+    let script = format!(in rt.alloc(); "Lemma a : {large}.")?;
+    refuses(
+        &rt,
+        rt.alloc(),
+        script.as_str(),
+        "refused: sentence 1 at 0: X3\n",
+    )?;
+    let script = format!(in rt.alloc(); "Predicate p() := {large}.")?;
+    refuses(
+        &rt,
+        rt.alloc(),
+        script.as_str(),
+        "refused: sentence 1 at 0: X3\n",
+    )?;
+    let fits = star(rt.alloc(), 1333)?;
+    let script = format!(in rt.alloc(); "Lemma a : {fits}.")?;
+    let end = script.len();
+    let line = format!(in rt.alloc(); "refused: sentence 2 at {end}: Q3\n")?;
+    refuses(&rt, rt.alloc(), script.as_str(), line.as_str())?;
+    Ok(())
+}
+
+/// The 65th parameter, hypothesis and predicate.
+#[test]
+fn one_too_many(rt: HostRuntime) -> Result<(), Fail> {
+    let mut parameters = String::new(rt.alloc());
+    let mut wands = String::new(rt.alloc());
+    let mut intros = String::new(rt.alloc());
+    let mut predicates = String::new(rt.alloc());
+    for i in 0..64u32 {
+        parameters.push_str(format!(in rt.alloc(); "x{i}, ")?.as_str())?;
+        wands.push_str("True -∗ ")?;
+        intros.push_str(format!(in rt.alloc(); "iIntros \"H{i}\". ")?.as_str())?;
+        predicates.push_str(format!(in rt.alloc(); "Predicate p{i}() := True. ")?.as_str())?;
+    }
+    let script = format!(in rt.alloc(); "Predicate p({parameters}y) := True.")?;
+    refuses(
+        &rt,
+        rt.alloc(),
+        script.as_str(),
+        "refused: sentence 1 at 0: X1\n",
+    )?;
+    let front = format!(in rt.alloc(); "Lemma a : {wands}True -∗ True. {intros}")?;
+    let at = front.len();
+    let script = format!(in rt.alloc(); "{front}iIntros \"K\".")?;
+    let line = format!(in rt.alloc(); "refused: sentence 66 at {at}: X2\n")?;
+    refuses(&rt, rt.alloc(), script.as_str(), line.as_str())?;
+    let at = predicates.len();
+    let script = format!(in rt.alloc(); "{predicates}Predicate q() := True.")?;
+    let line = format!(in rt.alloc(); "refused: sentence 65 at {at}: X6\n")?;
+    refuses(&rt, rt.alloc(), script.as_str(), line.as_str())?;
+    Ok(())
+}
+
+/// The 10,001st lemma.
+#[test]
+fn many_lemmas(rt: HostRuntime) -> Result<(), Fail> {
+    let mut script = String::new(rt.alloc());
+    for i in 0..10_000u32 {
+        let lemma = format!(in rt.alloc();
+            "Lemma l{i} : True -∗ True. iIntros \"H\". iExact \"H\". Qed.\n"
+        )?;
+        script.push_str(lemma.as_str())?;
+    }
+    let at = script.len();
+    script.push_str("Lemma k : True.")?;
+    let line = format!(in rt.alloc(); "refused: sentence 40001 at {at}: X7\n")?;
+    refuses(&rt, rt.alloc(), script.as_str(), line.as_str())?;
     Ok(())
 }

@@ -1,114 +1,145 @@
-use crate::script::{ReadSentence, Script, read_script};
-use crate::script_fault::ScriptFault;
-use pm_logic::{Bytes, Formula, Memory, Term, UNIT};
+use crate::tests::{answers, words};
+use crate::{MemSink, MemSource, Status, top};
+use pm_logic::{Bytes, Memory};
 use std::alloc::Global;
+use std::process::Abort;
 use std::test::Fail;
 
-/// Whether a term is this integer.
-fn is_literal(term: &Term, z: i64) -> bool {
-    matches!(term, Term::Lit(x) if *x == z)
-}
-
-/// Whether a formula is a whole points-to of these integers.
-fn is_points(formula: &Formula, from: i64, to: i64) -> bool {
-    match formula {
-        Formula::Pts { loc, units, val } => {
-            is_literal(loc, from) && is_literal(val, to) && *units == UNIT
-        }
-        _ => false,
-    }
-}
-
-/// The lemma that a script begins with.
-fn statement<'a>(script: &'a Script) -> Option<&'a Formula> {
-    match &script.sentences.get(0)?.sentence {
-        ReadSentence::Lemma { statement, .. } => Some(statement),
-        _ => None,
-    }
+fn unreadable(rt: &impl Abort, alloc: Global, script: &[u8], line: &str) -> Result<(), Memory> {
+    answers(rt, alloc, "run", script, Status::Unreadable, line)
 }
 
 #[test]
-fn a_script_and_its_places(rt: HostRuntime) -> Result<(), Fail> {
-    let text = "Lemma a : 1 ↦ 2 ⊢ 1 ↦ 2. iIntros \"H\". iExact \"K\".";
-    let Ok(script) = read_script(rt.alloc(), text.as_bytes()) else {
-        return Err(Fail::new("not read"));
-    };
-    let all = script.sentences.as_slice();
-    assert_eq!(rt; all.len(), 3);
-    assert_eq!(rt; all[0].at, 0);
-    assert_eq!(rt; all[1].at, 31);
-    assert_eq!(rt; all[2].at, 44);
-    let Some(Formula::Wand(left, right)) = statement(&script) else {
-        return Err(Fail::new("no wand"));
-    };
-    assert!(rt; is_points(left.get(), 1, 2));
-    assert!(rt; is_points(right.get(), 1, 2));
+fn kinds(rt: HostRuntime) -> Result<(), Fail> {
+    let rows = [
+        ("Lemma a : True.done.", "unreadable at 14: unexpected\n"),
+        ("Lemma a : 1.", "unreadable at 11: unexpected\n"),
+        ("Lemma a : p().", "unreadable at 10: unbound\n"),
+        ("Predicate p(x) := ⌜x = y⌝.", "unreadable at 25: unbound\n"),
+        (
+            "Lemma n : ⌜9223372036854775808 = 0⌝.",
+            "unreadable at 13: number\n",
+        ),
+        (
+            "Lemma f : 0 ↦{1/17} 0 ⊢ True.",
+            "unreadable at 18: fraction\n",
+        ),
+        (
+            "Predicate p(x) := True. Lemma a : p(1, 2).",
+            "unreadable at 40: arity\n",
+        ),
+    ];
+    for (script, line) in rows {
+        unreadable(&rt, rt.alloc(), script.as_bytes(), line)?;
+    }
+    unreadable(&rt, rt.alloc(), b"\xff", "unreadable at 0: unexpected\n")?;
     Ok(())
 }
 
+/// What is read stands before what is refused, and what isn't built yet is unexpected where it begins.
 #[test]
-fn many_parentheses(rt: HostRuntime) -> Result<(), Fail> {
-    let mut text = Bytes::from_slice(rt.alloc(), b"Lemma a:")?;
-    for _ in 0..2000 {
+fn unexpected(rt: HostRuntime) -> Result<(), Fail> {
+    let rows = [
+        ("Lemma a : True. iSplit.", "unreadable at 16: unexpected\n"),
+        ("Lemma a : True. Show.", "unreadable at 16: unexpected\n"),
+        ("iSplit.", "unreadable at 0: unexpected\n"),
+        ("Qed", "unreadable at 3: unexpected\n"),
+        ("Qed.Qed.", "unreadable at 3: unexpected\n"),
+        ("(* *", "unreadable at 4: unexpected\n"),
+        (".", "unreadable at 0: unexpected\n"),
+        ("Lemma forall : True.", "unreadable at 6: unexpected\n"),
+        ("Lemma a : True. Lemma b.", "unreadable at 23: unexpected\n"),
+        (
+            "Lemma a : True. iExact \"_\".",
+            "unreadable at 24: unexpected\n",
+        ),
+    ];
+    for (script, line) in rows {
+        unreadable(&rt, rt.alloc(), script.as_bytes(), line)?;
+    }
+    Ok(())
+}
+
+/// A lemma of a truth in so many parentheses.
+fn nested(alloc: Global, count: usize) -> Result<Bytes, Memory> {
+    let mut text = Bytes::from_slice(alloc, b"Lemma a : ")?;
+    for _ in 0..count {
         text.push(b'(')?;
     }
-    text.extend(b"07|->(-9223372036854775808)")?;
-    for _ in 0..2000 {
+    text.extend(b"True")?;
+    for _ in 0..count {
         text.push(b')')?;
     }
     text.push(b'.')?;
-    let Ok(script) = read_script(rt.alloc(), text.as_slice()) else {
-        return Err(Fail::new("not read"));
-    };
-    let Some(formula) = statement(&script) else {
-        return Err(Fail::new("no lemma"));
-    };
-    assert!(rt; is_points(formula, 7, -9223372036854775808));
-    Ok(())
-}
-
-/// So many copies of a piece behind the front of a lemma, and an end.
-fn repeated(alloc: Global, piece: &[u8], count: usize, end: &[u8]) -> Result<Bytes, Memory> {
-    let mut text = Bytes::from_slice(alloc, b"Lemma a:")?;
-    for _ in 0..count {
-        text.extend(piece)?;
-    }
-    text.extend(end)?;
     Ok(text)
 }
 
 #[test]
-fn deep_ends(rt: HostRuntime) -> Result<(), Fail> {
-    let deep = repeated(rt.alloc(), b"True*", 800, b"True.")?;
-    assert!(rt; read_script(rt.alloc(), deep.as_slice()).is_ok());
-    let deep = repeated(rt.alloc(), b"(True*", 600, b"True.")?;
-    assert_eq!(rt;
-        read_script(rt.alloc(), deep.as_slice()).err(),
-        Some(ScriptFault::Unreadable)
-    );
-    let deep = repeated(rt.alloc(), b"(", 4080, b".")?;
-    assert_eq!(rt;
-        read_script(rt.alloc(), deep.as_slice()).err(),
-        Some(ScriptFault::Unreadable)
-    );
+fn deep_formulas(rt: HostRuntime) -> Result<(), Fail> {
+    let fits = nested(rt.alloc(), 199)?;
+    let line = "refused: sentence 2 at 413: Q3\n";
+    answers(
+        &rt,
+        rt.alloc(),
+        "run",
+        fits.as_slice(),
+        Status::Refused,
+        line,
+    )?;
+    let deep = nested(rt.alloc(), 200)?;
+    unreadable(
+        &rt,
+        rt.alloc(),
+        deep.as_slice(),
+        "unreadable at 210: deep\n",
+    )?;
     Ok(())
 }
 
 #[test]
-fn no_small_scripts(rt: HostRuntime) -> Result<(), Fail> {
-    for text in [
-        "Qed.Qed.",
-        "Qed",
-        ".",
-        "iExact \"_\".",
-        "iExact \"True\".",
-        "Lemma a : (* so *) True.",
-        "Lemma a : 9223372036854775808 ↦ 1.",
-        "Lemma a : True ∗ 1.",
-        "Lemma a : True. Lemma b : True.",
-    ] {
-        let fault = read_script(rt.alloc(), text.as_bytes()).err();
-        assert_eq!(rt; fault, Some(ScriptFault::Unreadable));
+fn the_longest_script(rt: HostRuntime) -> Result<(), Fail> {
+    let rows = [
+        (
+            16_777_216,
+            Status::Unreadable,
+            "unreadable at 16777216: unexpected\n",
+        ),
+        (16_777_217, Status::TooLong, "too long\n"),
+    ];
+    for (length, status, line) in rows {
+        let text = vec![in rt.alloc(); b'a'; length]?;
+        answers(&rt, rt.alloc(), "run", &text, status, line)?;
     }
+    Ok(())
+}
+
+/// Runs a script over memory whose listed calls fail, and compares the status and what is written.
+fn fails(
+    rt: &impl Abort,
+    alloc: Global,
+    failing: (&[u64], &[u64]),
+    status: Status,
+    written: &str,
+) -> Result<(), Memory> {
+    let script = "Lemma a : True -∗ True. iIntros \"H\". iExact \"H\". Qed.";
+    let words = words(alloc, "run")?;
+    let mut source = MemSource::new(alloc, script.as_bytes(), failing.0)?;
+    let mut sink = MemSink::new(alloc, 1, failing.1)?;
+    let got = top(alloc, &words, &mut source, &mut sink);
+    assert_eq!(rt; got, status);
+    assert_eq!(rt; sink.bytes(), written.as_bytes());
+    Ok(())
+}
+
+#[test]
+fn failing_devices(rt: HostRuntime) -> Result<(), Fail> {
+    fails(&rt, rt.alloc(), (&[2], &[]), Status::ReadFault, "")?;
+    fails(
+        &rt,
+        rt.alloc(),
+        (&[], &[11]),
+        Status::WriteFault,
+        "mosel-deri",
+    )?;
     Ok(())
 }

@@ -49,12 +49,12 @@ fn derivations(rt: HostRuntime) -> Result<(), Fail> {
         (
             "1 refl 0 pure T pure T\nqed t 1\n",
             Status::Done,
-            "accepted: 1 statements\n",
+            "Lemma t : ⌜True⌝.\naccepted: 1 statements\n",
         ),
         (
             "1 sep-comm 0 sep pts 1 720720 2 pts 3 720720 4 sep pts 3 720720 4 pts 1 720720 2\n2 true 0 pure T pure T\nqed t 2\n",
             Status::Done,
-            "accepted: 1 statements\n",
+            "Lemma t : ⌜True⌝.\naccepted: 1 statements\n",
         ),
         (
             "1 sep-weaken 0 sep pure T pts 1 5 2 pts 1 5 2\n",
@@ -130,7 +130,12 @@ fn predicates(rt: HostRuntime) -> Result<(), Fail> {
         (
             "arities 0 0\npred p later call 1\npred q call 0\n1 fold 0 call 0 call 1\n",
             Status::Done,
-            "accepted: 0 statements\n",
+            "Predicate p() := ▷ q().\nPredicate q() := p().\naccepted: 0 statements\n",
+        ),
+        (
+            "arities 1 2\npred p all pts v1 360360 v0\npred q pers call 0 v1\n1 true 0 pure T pure T\nqed t 1\nqed u 1\n",
+            Status::Done,
+            "Predicate p(_0) := ∀ _1, _0 ↦{1/2} _1.\nPredicate q(_0, _1) := □ p(_1).\nLemma t : ⌜True⌝.\nLemma u : ⌜True⌝.\naccepted: 2 statements\n",
         ),
         (
             "arities 0 0\npred p call 1\npred q pure T\n",
@@ -277,21 +282,16 @@ fn a_long_name(rt: HostRuntime) -> Result<(), Fail> {
     let mut text = format!(in rt.alloc(); "{HEADER}1 refl 0 pure T pure T\nqed ")?;
     repeat(&mut text, "a", 1_000_000)?;
     text.push_str(" 1\n")?;
-    let line = "accepted: 1 statements\n";
-    checks(&rt, rt.alloc(), text.as_bytes(), Status::Done, line)?;
-    Ok(())
-}
-
-#[test]
-fn the_longest_script(rt: HostRuntime) -> Result<(), Fail> {
-    let rows = [
-        (16_777_216, Status::Unreadable, "unreadable\n"),
-        (16_777_217, Status::TooLong, "too long\n"),
-    ];
-    for (length, status, line) in rows {
-        let text = vec![in rt.alloc(); b'a'; length]?;
-        answers(&rt, rt.alloc(), "run", &text, status, line)?;
-    }
+    let mut lines = String::from_str(rt.alloc(), "Lemma ")?;
+    repeat(&mut lines, "a", 1_000_000)?;
+    lines.push_str(" : ⌜True⌝.\naccepted: 1 statements\n")?;
+    checks(
+        &rt,
+        rt.alloc(),
+        text.as_bytes(),
+        Status::Done,
+        lines.as_str(),
+    )?;
     Ok(())
 }
 

@@ -1,12 +1,12 @@
-use Rattle.std.proofs.Common.{ℕ, List, ap, sym, subst}
-use Rattle.pm_top.specs.ScriptReading.{sentences_of}
-use Rattle.pm_top.specs.Sentence.{Sentence}
-use Rattle.pm_top.specs.Script.{IsSmallScript}
-use Rattle.pm_top.proofs.Runs.{if_ok}
-use Rattle.pm_top.proofs.RunAnswers.{answered}
+use Rattle.std.proofs.Common.{arith}
+use Rattle.pm_top.proofs.RunAnswers.{ran_accepted, ran_refused, ran_unreadable}
 use Rattle.pm_top.proofs.answer.run.Goals as goal
 
-pub returns : goal.returns
-returns c =
-    let small = subst (λ (ss : List (ℕ × Sentence)). IsSmallScript c.args.bytes.now ss) (ap sentences_of (sym c.as_slice-sentences.ensures)) c.in-Ok.ensures in
-    if_ok c.run_answer.result _ _ c.run_answer.ensures (λ x a. answered c.args.bytes.now _ _ x small c.in_ok-run.ensures a)
+pub returns-in-Accepted-2 : goal.returns-in-Accepted-2
+returns-in-Accepted-2 c = ran_accepted c.args.bytes.now _ _ c.in_ok-text.ensures c.in-Accepted.is (omega (arith, c.len.ensures, c.if-len-gt-MOST.false))
+
+pub returns-in_ok-refusal-in-Refused : goal.returns-in_ok-refusal-in-Refused
+returns-in_ok-refusal-in-Refused c = ran_refused c.args.bytes.now _ _ _ _ _ c.in_ok-text.ensures c.in-Refused.is c.in_ok-refusal-in-Refused.ensures
+
+pub returns-in_ok-unreadable-in-Unreadable : goal.returns-in_ok-unreadable-in-Unreadable
+returns-in_ok-unreadable-in-Unreadable c = ran_unreadable c.args.bytes.now _ _ _ c.in_ok-text.ensures c.in-Unreadable.is c.in_ok-unreadable-in-Unreadable.ensures

@@ -1,0 +1,10 @@
+pub mod Steppings
+pub mod Names
+pub mod RowTests
+pub mod Sounds
+pub mod OneRun
+pub mod Doings
+pub mod Looped
+pub mod Sayable
+pub mod Decisions
+pub mod SomeRun

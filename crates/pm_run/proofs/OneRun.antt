@@ -1,0 +1,164 @@
+-- A script comes to one thing.
+use Rattle.std.proofs.Common.{◌≡◌, ◌⊎◌, inl, inr, ℕ, ◌+◌, Bool, true, false, List, [], ◌∷◌, length, refl, sym, ◌∙◌, ap, subst, Option, Some, None, Result, Ok, Err}
+use Rattle.pm_logic.specs.declared.formula.Formula.{Formula}
+use Rattle.pm_terms.specs.declared.fault.TextFault.{TextFault}
+use Rattle.pm_terms.specs.declared.fault.TextFault.TheVariants.{Unexpected}
+use Rattle.pm_goal.specs.declared.goal.Goal.{Goal}
+use Rattle.pm_goal.specs.declared.goal.Hyp.{Hyp}
+use Rattle.pm_cutter.specs.Cutting.{Part, cut, rest_of}
+use Rattle.pm_script.specs.declared.sentence.Sentence.{Sentence}
+use Rattle.pm_script.specs.declared.sentence.Sentence.TheVariants as sentence
+use Rattle.pm_run.specs.declared.row.Row.{Row}
+use Rattle.pm_run.specs.declared.row.Refusal.{Refusal}
+use Rattle.pm_run.specs.Rows.{Table, when_large}
+use Rattle.pm_run.specs.Steps.{Step, intro, exact, step_of, step_name, step_rows, sides_of, hyp_of, intro_rows, exact_rows}
+use Rattle.pm_run.specs.Runs.{OpenProof, State, start, Answer, moves, refuses, unbuilt, answer_of, Answers, predicate_rows, with_predicate, lemma_rows, opened, proof_rows, qed_rows, qed_state, goal_rows, directive_rows, directive_state, Directs, Does, Outcome, refused, unreadable, RunsFrom, does_not_read, is_unbuilt, is_refused, goes_on, is_cut_off, ends_inside, ends}
+use Rattle.pm_run.specs.Coming.{RunsAreOne}
+
+-- ---- a table answers one row
+
+-- two answers are one, if those of the others are
+one_when : {P A B : Type 0} {a b : Option Row} {row : Row} → P × (a ≡ Some row) ⊎ (¬ P) × A → P × (b ≡ Some row) ⊎ (¬ P) × B → (A → B → a ≡ b) → a ≡ b
+one_when (inl x) (inl y) rest = x.1 ∙ sym y.1
+one_when (inl x) (inr y) rest = absurd (y.0 x.0)
+one_when (inr x) (inl y) rest = absurd (x.0 y.0)
+one_when (inr x) (inr y) rest = rest x.1 y.1
+
+-- both are the same
+both_are : {A : Type 0} {a b c : A} → a ≡ c → b ≡ c → a ≡ b
+both_are e f = e ∙ sym f
+
+one_large : (goal : Goal) (others : Table) (a b : Option Row) → when_large goal others a → when_large goal others b → (others a → others b → a ≡ b) → a ≡ b
+one_large goal others a b x y rest = one_when x y (λ x1 y1. one_when x1 y1 (λ x2 y2. one_when x2 y2 (λ x3 y3. one_when x3 y3 rest)))
+
+abbrev IsOne : Table → Type 0
+IsOne table = (a b : Option Row) → table a → table b → a ≡ b
+
+one_predicate : (s : State) (name : List ℕ) (params : List (List ℕ)) (body : Formula) → IsOne (predicate_rows s name params body)
+one_predicate s name params body a b x y =
+    one_when x y (λ x1 y1. one_when x1 y1 (λ x2 y2. one_when x2 y2 (λ x3 y3. one_when x3 y3 (λ x4 y4. one_when x4 y4 (λ x5 y5. one_when x5 y5 (λ x6 y6. one_when x6 y6 (λ e f. both_are e f)))))))
+
+one_lemma : (s : State) (name : List ℕ) (statement : Formula) → IsOne (lemma_rows s name statement)
+one_lemma s name statement a b x y =
+    one_when x y (λ x1 y1. one_when x1 y1 (λ x2 y2. one_when x2 y2 (λ x3 y3. one_when x3 y3 (λ x4 y4. one_when x4 y4 (λ x5 y5. one_when x5 y5 (λ x6 y6. one_when x6 y6 (λ e f. both_are e f)))))))
+
+one_proof : (s : State) → IsOne (proof_rows s)
+one_proof s a b x y = one_when x y (λ e f. both_are e f)
+
+one_qed : (o : Option OpenProof) → IsOne (qed_rows o)
+one_qed None a b x y = both_are x y
+one_qed (Some p) a b x y = one_when x y (λ e f. both_are e f)
+
+one_intro : (goal : Goal) (name : List ℕ) (sides : Option (Bool × Formula × Formula)) → IsOne (intro_rows goal name sides)
+one_intro goal name None a b x y = both_are x y
+one_intro goal name (Some (implies, left, right)) a b x y =
+    one_when x y (λ x1 y1. one_when x1 y1 (λ x2 y2. one_when x2 y2 (λ x3 y3. one_when x3 y3 (λ x4 y4. one_when x4 y4 (λ x5 y5. one_when x5 y5 (λ e f. both_are e f))))))
+
+one_exact : (goal : Goal) (name : List ℕ) (hyp : Option Hyp) → IsOne (exact_rows goal name hyp)
+one_exact goal name None a b x y = both_are x y
+one_exact goal name (Some h) a b x y = one_when x y (λ e f. both_are e f)
+
+one_step : (goal : Goal) (step : Step) → IsOne (step_rows goal step)
+one_step goal (intro name) a b x y = one_intro goal name (sides_of goal.concl) a b x y
+one_step goal (exact name) a b x y = one_exact goal name (hyp_of goal name) a b x y
+
+one_goal : (goals : List Goal) (step : Step) → IsOne (goal_rows goals step)
+one_goal [] step a b x y = both_are x y
+one_goal (g ∷ gs) step a b x y = one_step g step a b x y
+
+one_directive : (o : Option OpenProof) (step : Step) → IsOne (directive_rows o step)
+one_directive None step a b x y = both_are x y
+one_directive (Some p) step a b x y = one_goal p.goals step a b x y
+
+-- ---- a sentence does one thing
+
+one_answer : (name : List ℕ) (table : Table) (new : State) (a b : Answer) → IsOne table → Answers name table new a → Answers name table new b → a ≡ b
+one_answer name table new a b one x y = x.2 ∙ ap (answer_of name new) (one x.0 y.0 x.1 y.1) ∙ sym y.2
+
+one_directs : (s : State) (step : Option Step) (a b : Answer) → Directs s step a → Directs s step b → a ≡ b
+one_directs s None a b x y = both_are x y
+one_directs s (Some step) a b x y = one_answer (step_name step) (directive_rows s.proof step) (directive_state s s.proof step) a b (one_directive s.proof step) x y
+
+one_does : (s : State) (x : Sentence) (a b : Answer) → Does s x a → Does s x b → a ≡ b
+unfolding Does
+one_does s (sentence.Predicate name params body) a b u v = one_answer name (predicate_rows s name params body) (with_predicate s name params body) a b (one_predicate s name params body) u v
+one_does s (sentence.Lemma name statement) a b u v = one_answer name (lemma_rows s name statement) (opened s name statement) a b (one_lemma s name statement) u v
+one_does s sentence.Proof a b u v = one_answer [] (proof_rows s) s a b (one_proof s) u v
+one_does s sentence.Qed a b u v = one_answer [] (qed_rows s.proof) (qed_state s s.proof) a b (one_qed s.proof) u v
+one_does s (sentence.Directive d) a b u v = one_directs s (step_of d) a b u v
+one_does s x a b u v = both_are u v
+
+-- ---- a run comes to one thing
+
+abbrev Read : Type 0
+Read = Result Sentence TextFault
+
+same_sentence : (r : Read) (x y : Sentence) → r ≡ Ok x → r ≡ Ok y → x ≡ y
+same_sentence r x y e f = cc
+
+same_fault : (r : Read) (f g : TextFault) → r ≡ Err f → r ≡ Err g → f ≡ g
+same_fault r f g e h = cc
+
+read_or_not : (r : Read) (x : Sentence) (f : TextFault) → r ≡ Ok x → r ≡ Err f → ⊥
+read_or_not r x f e h = cc
+
+-- what a sentence that was read does
+one_done : (s : State) (r : Read) (x y : Sentence) (a b : Answer) → r ≡ Ok x → r ≡ Ok y → Does s x a → Does s y b → a ≡ b
+one_done s r x y a b e f u v = one_does s x a b u (subst (λ (z : Sentence). Does s z b) (same_sentence r y x f e) v)
+
+same_place : (o : Option ℕ) (i j : ℕ) → o ≡ Some i → o ≡ Some j → i ≡ j
+same_place o i j e f = cc
+
+some_or_none : (o : Option ℕ) (i : ℕ) → o ≡ Some i → o ≡ None → ⊥
+some_or_none o i e f = cc
+
+open_or_not : (b : Bool) → b ≡ true → b ≡ false → ⊥
+open_or_not b e f = cc
+
+same_refusal : (q r : Refusal) → refuses q ≡ refuses r → q ≡ r
+same_refusal q r e = cc
+
+same_state : (s t : State) → moves s ≡ moves t → s ≡ t
+same_state s t e = cc
+
+unbuilt_refuses : (r : Refusal) → unbuilt ≡ refuses r → ⊥
+unbuilt_refuses r e = cc
+
+unbuilt_moves : (s : State) → unbuilt ≡ moves s → ⊥
+unbuilt_moves s e = cc
+
+refuses_moves : (r : Refusal) (s : State) → refuses r ≡ moves s → ⊥
+refuses_moves r s e = cc
+
+behind : (size : ℕ) (rest : Option ℕ) (n : ℕ) (ps : List Part) (o : Outcome) (s t : State) → s ≡ t → RunsFrom size rest n t ps o → RunsFrom size rest n s ps o
+behind size rest n ps o s t e run = subst (λ (z : State). RunsFrom size rest n z ps o) (sym e) run
+
+one_from : (size : ℕ) (rest : Option ℕ) (n : ℕ) (s : State) (ps : List Part) (a b : Outcome) → RunsFrom size rest n s ps a → RunsFrom size rest n s ps b → a ≡ b
+one_from size rest n s _ _ _ (does_not_read p e) (does_not_read q f) = ap unreadable (same_fault _ _ _ e f)
+one_from size rest n s _ _ _ (does_not_read p e) (is_unbuilt q y f v) = absurd (read_or_not _ _ _ f e)
+one_from size rest n s _ _ _ (does_not_read p e) (is_refused q y f v) = absurd (read_or_not _ _ _ f e)
+one_from size rest n s _ _ _ (does_not_read p e) (goes_on q y t f v run) = absurd (read_or_not _ _ _ f e)
+one_from size rest n s _ _ _ (is_unbuilt p x e u) (does_not_read q f) = absurd (read_or_not _ _ _ e f)
+one_from size rest n s _ _ _ (is_unbuilt p x e u) (is_unbuilt q y f v) = refl
+one_from size rest n s _ _ _ (is_unbuilt p x e u) (is_refused q y f v) = absurd (unbuilt_refuses _ (one_done s _ x y _ _ e f u v))
+one_from size rest n s _ _ _ (is_unbuilt p x e u) (goes_on q y t f v run) = absurd (unbuilt_moves _ (one_done s _ x y _ _ e f u v))
+one_from size rest n s _ _ _ (is_refused p x e u) (does_not_read q f) = absurd (read_or_not _ _ _ e f)
+one_from size rest n s _ _ _ (is_refused p x e u) (is_unbuilt q y f v) = absurd (unbuilt_refuses _ (one_done s _ y x _ _ f e v u))
+one_from size rest n s _ _ _ (is_refused p x e u) (is_refused q y f v) = ap (refused n q.offset) (same_refusal _ _ (one_done s _ x y _ _ e f u v))
+one_from size rest n s _ _ _ (is_refused p x e u) (goes_on q y t f v run) = absurd (refuses_moves _ _ (one_done s _ x y _ _ e f u v))
+one_from size rest n s _ _ _ (goes_on p x new e u run) (does_not_read q f) = absurd (read_or_not _ _ _ e f)
+one_from size rest n s _ _ _ (goes_on p x new e u run) (is_unbuilt q y f v) = absurd (unbuilt_moves _ (one_done s _ y x _ _ f e v u))
+one_from size rest n s _ _ _ (goes_on p x new e u run) (is_refused q y f v) = absurd (refuses_moves _ _ (one_done s _ y x _ _ f e v u))
+one_from size rest n s _ _ _ (goes_on p x new e u run) (goes_on q y t f v run') = one_from size rest (n + 1) new _ _ _ run (behind size rest (n + 1) _ _ new t (same_state new t (one_done s _ x y _ _ e f u v)) run')
+one_from size rest n s _ _ _ (is_cut_off i e) (is_cut_off j f) = ap (λ (k : ℕ). unreadable (Unexpected k)) (same_place rest i j e f)
+one_from size rest n s _ _ _ (is_cut_off i e) (ends_inside f h) = absurd (some_or_none rest i e f)
+one_from size rest n s _ _ _ (is_cut_off i e) (ends f h) = absurd (some_or_none rest i e f)
+one_from size rest n s _ _ _ (ends_inside e g) (is_cut_off i f) = absurd (some_or_none rest i f e)
+one_from size rest n s _ _ _ (ends_inside e g) (ends_inside f h) = refl
+one_from size rest n s _ _ _ (ends_inside e g) (ends f h) = absurd (open_or_not _ g h)
+one_from size rest n s _ _ _ (ends e g) (is_cut_off i f) = absurd (some_or_none rest i f e)
+one_from size rest n s _ _ _ (ends e g) (ends_inside f h) = absurd (open_or_not _ h g)
+one_from size rest n s _ _ _ (ends e g) (ends f h) = refl
+
+pub runs_are_one : RunsAreOne
+runs_are_one bytes a b x y = one_from (length bytes) (rest_of bytes) 1 start (cut bytes) a b x y

@@ -1,0 +1,141 @@
+-- A script comes to something.
+use Rattle.std.proofs.Common.{◌≡◌, ◌⊎◌, inl, inr, ℕ, ◌+◌, ◌<◌, ◌≤◌, Bool, true, false, ◌&&◌, not, List, [], ◌∷◌, length, refl, Option, Some, None}
+use Rattle.std.specs.Prelude.{IsTrue, position, Result, Ok, Err}
+use Rattle.std.specs.Bool.{Decides}
+use Rattle.std.proofs.Math.Dec.{ltb}
+use Rattle.std.proofs.lemmas.Bool.Decides.{Decides-ltb, Decides-not}
+use Rattle.pm_logic.specs.declared.formula.Formula.{Formula}
+use Rattle.pm_logic.specs.Guard.{CallsBelow}
+use Rattle.pm_logic.specs.Size.{nodes_of, depth_of}
+use Rattle.pm_goal.specs.declared.goal.Hyp.{Hyp}
+use Rattle.pm_goal.specs.declared.goal.Goal.{Goal}
+use Rattle.pm_terms.specs.declared.fault.TextFault.{TextFault}
+use Rattle.pm_terms.specs.declared.fault.TextFault.TheVariants.{Unexpected}
+use Rattle.pm_cutter.specs.Cutting.{Part, cut, rest_of}
+use Rattle.pm_script.specs.declared.sentence.Sentence.{Sentence}
+use Rattle.pm_script.specs.declared.sentence.Sentence.TheVariants as sentence
+use Rattle.pm_script.specs.SentenceReading.{read_sentence}
+use Rattle.pm_run.specs.declared.row.Row.{Row}
+use Rattle.pm_run.specs.declared.row.Row.TheVariants.{I1, I2, N1, N2, B5, Q1, Q2, Q3, Q4, Q7, Q9, X1, X2, X3, X4, X6, X7}
+use Rattle.pm_run.specs.Rows.{Table, when, no_row, always, refusal, formulas, all_nodes, greatest_depth, held, when_large}
+use Rattle.pm_run.specs.Steps.{Step, intro, exact, step_of, step_name, step_rows, sides_of, introduced, is_taken, IsBlocked, intro_rows, exact_rows, hyp_of}
+use Rattle.pm_run.specs.Runs.{OpenProof, State, start, is_open, is_used, scope, opening, Answer, moves, refuses, unbuilt, answer_of, Answers, predicate_rows, with_predicate, lemma_rows, opened, proof_rows, qed_rows, qed_state, goal_rows, directive_rows, directive_state, Directs, Does, Outcome, accepted, refused, unreadable, RunsFrom, does_not_read, is_unbuilt, is_refused, goes_on, is_cut_off, ends_inside, ends}
+use Rattle.pm_run.specs.Coming.{RunsAreTotal}
+use Rattle.pm_run.proofs.Decisions.{decides_true, decides_three, decides_le, decides_empty, decides_same, decides_below, decides_persistent}
+
+-- ---- each table answers
+
+abbrev HasAnswer : Table → Type 0
+HasAnswer table = (row : Option Row) × table row
+
+no_row_answers : HasAnswer no_row
+no_row_answers = (None, refl)
+
+always_answers : (row : Row) → HasAnswer (always row)
+always_answers row = (Some row, refl)
+
+when_answers : (condition : Type 0) (row : Row) (others : Table) (r : Bool) → Decides r condition → HasAnswer others → HasAnswer (when condition row others)
+when_answers condition row others true d h = (Some row, inl (d.0 refl, refl))
+when_answers condition row others false d h = (h.0, inr (λ c. cc (d.1 c), h.1))
+
+when_true : (b : Bool) (row : Row) (others : Table) → HasAnswer others → HasAnswer (when (IsTrue b) row others)
+when_true b row others h = when_answers (IsTrue b) row others b (decides_true b) h
+
+when_below : (m n : ℕ) (row : Row) (others : Table) → HasAnswer others → HasAnswer (when (m < n) row others)
+when_below m n row others h = when_answers (m < n) row others (ltb m n) (Decides-ltb m n) h
+
+when_reached : (m n : ℕ) (row : Row) (others : Table) → HasAnswer others → HasAnswer (when (m ≤ n) row others)
+when_reached m n row others h = when_answers (m ≤ n) row others (not (ltb n m)) (decides_le m n) h
+
+when_not : (condition : Type 0) (row : Row) (others : Table) (r : Bool) → Decides r condition → HasAnswer others → HasAnswer (when (¬ condition) row others)
+when_not condition row others r d h = when_answers (¬ condition) row others (not r) (Decides-not r d) h
+
+large_answers : (g : Goal) (others : Table) → HasAnswer others → HasAnswer (when_large g others)
+large_answers g others h =
+    when_below 64 (length g.vars) X1 _ (when_below 64 (held g) X2 _ (when_below 4000 (all_nodes (formulas g)) X3 _ (when_below 200 (greatest_depth (formulas g)) X4 others h)))
+
+predicate_answers : (s : State) (name : List ℕ) (params : List (List ℕ)) (body : Formula) → HasAnswer (predicate_rows s name params body)
+predicate_answers s name params body =
+    when_true (is_open s) Q2 _ (when_true (is_used s name) Q4 _ (when_not (CallsBelow (length s.preds) body) Q7 _ _ (decides_below (length s.preds) body)
+    (when_reached 64 (length s.preds) X6 _ (when_below 64 (length params) X1 _ (when_below 4000 (nodes_of body) X3 _ (when_below 200 (depth_of body) X4 no_row no_row_answers))))))
+
+lemma_answers : (s : State) (name : List ℕ) (f : Formula) → HasAnswer (lemma_rows s name f)
+lemma_answers s name f = when_true (is_open s) Q2 _ (when_true (is_used s name) Q4 _ (when_reached 10000 (length s.lemmas) X7 _ (large_answers (opening f) no_row no_row_answers)))
+
+qed_answers : (p : Option OpenProof) → HasAnswer (qed_rows p)
+qed_answers None = always_answers Q1
+qed_answers (Some p) = let empty = decides_empty p.goals in when_not (p.goals ≡ []) Q3 no_row empty.0 empty.1 no_row_answers
+
+blocked_answers : (goal : Goal) (implies : Bool) (a : Formula) (others : Table) → HasAnswer others → HasAnswer (when (IsBlocked implies a goal.spats) I2 others)
+blocked_answers goal implies a others h =
+    let empty = decides_empty goal.spats in
+    when_answers (IsBlocked implies a goal.spats) I2 others _
+    (decides_three implies _ _ (decides_true implies) (Decides-not _ (decides_persistent a)) (Decides-not empty.0 empty.1)) h
+
+intro_answers : (goal : Goal) (name : List ℕ) (sides : Option (Bool × Formula × Formula)) → HasAnswer (intro_rows goal name sides)
+intro_answers goal name None = always_answers I1
+intro_answers goal name (Some (implies, a, b)) =
+    blocked_answers goal implies a _ (large_answers (introduced goal name a b) _ (when_true (is_taken goal name) N2 no_row no_row_answers))
+
+exact_answers : (goal : Goal) (name : List ℕ) (h : Option Hyp) → HasAnswer (exact_rows goal name h)
+exact_answers goal name None = always_answers N1
+exact_answers goal name (Some h) = when_not (h.formula ≡ goal.concl) B5 no_row _ (decides_same h.formula goal.concl) no_row_answers
+
+step_answers : (goal : Goal) (d : Step) → HasAnswer (step_rows goal d)
+step_answers goal (intro x) = intro_answers goal x (sides_of goal.concl)
+step_answers goal (exact x) = exact_answers goal x (hyp_of goal x)
+
+goal_answers : (gs : List Goal) (d : Step) → HasAnswer (goal_rows gs d)
+goal_answers [] d = always_answers Q9
+goal_answers (g ∷ gs) d = step_answers g d
+
+directive_answers : (p : Option OpenProof) (d : Step) → HasAnswer (directive_rows p d)
+directive_answers None d = always_answers Q1
+directive_answers (Some p) d = goal_answers p.goals d
+
+-- ---- each sentence does something
+
+abbrev DoesSome : State → Sentence → Type 0
+DoesSome s x = (a : Answer) × Does s x a
+
+answered : (name : List ℕ) (table : Table) (new : State) → HasAnswer table → (a : Answer) × Answers name table new a
+answered name table new h = (answer_of name new h.0, (h.0, h.1, refl))
+
+directed : (s : State) (d : Option Step) → (a : Answer) × Directs s d a
+directed s None = (unbuilt, refl)
+directed s (Some d) = answered (step_name d) (directive_rows s.proof d) (directive_state s s.proof d) (directive_answers s.proof d)
+
+does_some : (s : State) (x : Sentence) → DoesSome s x
+unfolding Does
+does_some s (sentence.Predicate name params body) = answered name (predicate_rows s name params body) (with_predicate s name params body) (predicate_answers s name params body)
+does_some s (sentence.Lemma name f) = answered name (lemma_rows s name f) (opened s name f) (lemma_answers s name f)
+does_some s sentence.Proof = answered [] (proof_rows s) s (when_not (IsTrue (is_open s)) Q1 no_row (is_open s) (decides_true (is_open s)) no_row_answers)
+does_some s sentence.Qed = answered [] (qed_rows s.proof) (qed_state s s.proof) (qed_answers s.proof)
+does_some s (sentence.Directive d) = directed s (step_of d)
+does_some s x = (unbuilt, refl)
+
+-- ---- a run comes to something
+
+abbrev ComesToSome : ℕ → Option ℕ → ℕ → State → List Part → Type 0
+ComesToSome size left n s ps = (o : Outcome) × RunsFrom size left n s ps o
+
+at_answer : (size : ℕ) (left : Option ℕ) (n : ℕ) (s : State) (p : Part) (ps : List Part) (x : Sentence) → read_sentence p.offset s.preds (scope s) p.text ≡ Ok x → (a : Answer) → Does s x a → ((new : State) → ComesToSome size left (n + 1) new ps) → ComesToSome size left n s (p ∷ ps)
+at_answer size left n s p ps x e (moves new) does on = let b = on new in (b.0, goes_on p x new e does b.1)
+at_answer size left n s p ps x e (refuses r) does on = (refused n p.offset r, is_refused p x e does)
+at_answer size left n s p ps x e unbuilt does on = (unreadable (Unexpected p.offset), is_unbuilt p x e does)
+
+at_reading : (size : ℕ) (left : Option ℕ) (n : ℕ) (s : State) (p : Part) (ps : List Part) (r : Result Sentence TextFault) → read_sentence p.offset s.preds (scope s) p.text ≡ r → ((new : State) → ComesToSome size left (n + 1) new ps) → ComesToSome size left n s (p ∷ ps)
+at_reading size left n s p ps (Ok x) e on = let a = does_some s x in at_answer size left n s p ps x e a.0 a.1 on
+at_reading size left n s p ps (Err f) e on = (unreadable f, does_not_read p e)
+
+at_end : (size : ℕ) (n : ℕ) (s : State) (b : Bool) → is_open s ≡ b → ComesToSome size None n s []
+at_end size n s true e = (refused n size (refusal Q3 []), ends_inside refl e)
+at_end size n s false e = (accepted s.preds s.lemmas, ends refl e)
+
+comes_to_some : (size : ℕ) (left : Option ℕ) (n : ℕ) (s : State) (ps : List Part) → ComesToSome size left n s ps
+comes_to_some size left n s (p ∷ ps) = at_reading size left n s p ps (read_sentence p.offset s.preds (scope s) p.text) refl (λ new. comes_to_some size left (n + 1) new ps)
+comes_to_some size (Some at) n s [] = (unreadable (Unexpected at), is_cut_off at refl)
+comes_to_some size None n s [] = at_end size n s (is_open s) refl
+
+pub runs_are_total : RunsAreTotal
+runs_are_total bytes = comes_to_some (length bytes) (rest_of bytes) 1 start (cut bytes)

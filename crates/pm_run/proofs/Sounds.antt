@@ -1,0 +1,257 @@
+-- What each sentence keeps of a state: it is sound, and which names are used.
+use Rattle.std.proofs.Common.{◌≡◌, ◌⊎◌, inl, inr, ℕ, zero, suc, ◌<◌, ◌≤◌, Bool, true, false, ◌||◌, List, [], ◌∷◌, ◌++◌, length, map, refl, sym, ◌∙◌, ap, subst, arith, Option, Some, None}
+use Rattle.std.proofs.lemmas.List.Folds.{list_any-append}
+use Rattle.std.proofs.lemmas.Slice.Eq.{bytes_eq-Decides}
+use Rattle.std.specs.Prelude.{IsTrue, is_some, not}
+use Rattle.std.specs.List.{AllByRecursion, list_any}
+use Rattle.std.specs.Str.{bytes_eq}
+use Rattle.pm_logic.specs.declared.formula.Formula.{Formula}
+use Rattle.pm_logic.specs.declared.formula.Formula.TheVariants.{Pure as Fact, Pts, Call}
+use Rattle.pm_logic.specs.declared.formula.Pred.{Pred}
+use Rattle.pm_logic.specs.Trees.{Sep, Wand, And, Or, Imp, All, Ex, Later, Pers, Upd}
+use Rattle.pm_logic.specs.Guard.{CallsBelow}
+use Rattle.pm_logic.specs.Size.{depth_of}
+use Rattle.pm_names.specs.Names.{is_name}
+use Rattle.pm_dtext.specs.Ranges.{HasArity, InRange, AritiesFit, PredFits}
+use Rattle.pm_dtext.specs.Texts.{arities_of, names_of}
+use Rattle.pm_dtext.proofs.Tables.{taken_by}
+use Rattle.pm_check.specs.declared.checked.Statement.{Statement}
+use Rattle.pm_check.specs.Lines.{is_used as is_stated}
+use Rattle.pm_check.specs.Table.{BeginsTable}
+use Rattle.pm_check.proofs.Tables.{table_none, table_more}
+use Rattle.pm_derive.specs.Stating.{IsNew}
+use Rattle.pm_goal.specs.declared.goal.Goal.{Goal}
+use Rattle.pm_script.specs.declared.sentence.Sentence.TheVariants as sentence
+use Rattle.pm_run.specs.declared.row.Row.{Row}
+use Rattle.pm_run.specs.Runs.{OpenProof, State, start, is_open, is_used, predicate_rows, with_predicate, lemma_rows, opened, with_proof, proved}
+use Rattle.pm_run.specs.Keeping.{IsProvable, ProofIsSound, IsSound, IsSayable}
+
+-- ---- tests
+
+-- where a table answers no row, its first condition fails and the others answer none
+none_when : {P A : Type 0} {row : Row} → P × (None ≡ Some row) ⊎ (¬ P) × A → (¬ P) × A
+none_when (inl x) = absurd (cc x.1)
+none_when (inr x) = x
+
+not_true : (b : Bool) → ¬ IsTrue b → b ≡ false
+not_true true never = absurd (never refl)
+not_true false never = refl
+
+neither : (a b : Bool) → ¬ IsTrue (a || b) → (a ≡ false) × (b ≡ false)
+neither true b never = absurd (never refl)
+neither false true never = absurd (never refl)
+neither false false never = (refl, refl)
+
+or_other : (a b : Bool) → (a || b) ≡ false → b ≡ false
+or_other true b e = absurd (cc e)
+or_other false b e = e
+
+less_or_not : (n m : ℕ) → (n < m) ⊎ (m ≤ n)
+less_or_not n m = grind arith
+
+not_above : (n m : ℕ) → ¬ (n < m) → m ≤ n
+not_above n m never = elim (less_or_not n m) [ inl lt ↦ absurd (never lt) | inr le ↦ le ]
+
+not_below : (n m : ℕ) → ¬ (n ≤ m) → m < n
+not_below n m never = elim (less_or_not m n) [ inl lt ↦ lt | inr le ↦ absurd (never le) ]
+
+is_less : (n m : ℕ) → ¬ (¬ (n < m)) → n < m
+is_less n m never = elim (less_or_not n m) [ inl lt ↦ lt | inr le ↦ absurd (never (λ lt. omega arith)) ]
+
+same_tests : (a b : Bool) → (a ≡ true → b ≡ true) → (b ≡ true → a ≡ true) → a ≡ b
+same_tests true b to back = sym (to refl)
+same_tests false true to back = back refl
+same_tests false false to back = refl
+
+turned : (x y : List ℕ) → bytes_eq x y ≡ bytes_eq y x
+turned x y = same_tests (bytes_eq x y) (bytes_eq y x) (λ e. (bytes_eq-Decides y x).1 (sym ((bytes_eq-Decides x y).0 e))) (λ e. (bytes_eq-Decides x y).1 (sym ((bytes_eq-Decides y x).0 e)))
+
+-- calls that can't but be below are below
+calls_below : (p : ℕ) (f : Formula) → ¬ (¬ CallsBelow p f) → CallsBelow p f
+unfolding CallsBelow
+calls_below p (Fact a) never = tt
+calls_below p (Sep a b) never = (calls_below p a (λ n. never (λ h. n h.0)), calls_below p b (λ n. never (λ h. n h.1)))
+calls_below p (Wand a b) never = (calls_below p a (λ n. never (λ h. n h.0)), calls_below p b (λ n. never (λ h. n h.1)))
+calls_below p (And a b) never = (calls_below p a (λ n. never (λ h. n h.0)), calls_below p b (λ n. never (λ h. n h.1)))
+calls_below p (Or a b) never = (calls_below p a (λ n. never (λ h. n h.0)), calls_below p b (λ n. never (λ h. n h.1)))
+calls_below p (Imp a b) never = (calls_below p a (λ n. never (λ h. n h.0)), calls_below p b (λ n. never (λ h. n h.1)))
+calls_below p (All a) never = calls_below p a never
+calls_below p (Ex a) never = calls_below p a never
+calls_below p (Later a) never = tt
+calls_below p (Pers a) never = calls_below p a never
+calls_below p (Upd a) never = calls_below p a never
+calls_below p (Pts l u v) never = tt
+calls_below p (Call q args) never = is_less q p never
+
+-- ---- ranges grow with the table
+
+arity_more : (arities more : List ℕ) (p n : ℕ) → HasArity arities p n → HasArity (arities ++ more) p n
+arity_more [] more p n h = absurd cc
+arity_more (a ∷ arities) more zero n h = h
+arity_more (a ∷ arities) more (suc p) n h = arity_more arities more p n h
+
+pub in_range_more : (arities more : List ℕ) (k : ℕ) (f : Formula) → InRange arities k f → InRange (arities ++ more) k f
+unfolding InRange
+in_range_more arities more k (Fact a) h = h
+in_range_more arities more k (Sep p q) h = (in_range_more arities more k p h.0, in_range_more arities more k q h.1)
+in_range_more arities more k (Wand p q) h = (in_range_more arities more k p h.0, in_range_more arities more k q h.1)
+in_range_more arities more k (And p q) h = (in_range_more arities more k p h.0, in_range_more arities more k q h.1)
+in_range_more arities more k (Or p q) h = (in_range_more arities more k p h.0, in_range_more arities more k q h.1)
+in_range_more arities more k (Imp p q) h = (in_range_more arities more k p h.0, in_range_more arities more k q h.1)
+in_range_more arities more k (All p) h = in_range_more arities more (suc k) p h
+in_range_more arities more k (Ex p) h = in_range_more arities more (suc k) p h
+in_range_more arities more k (Later p) h = in_range_more arities more k p h
+in_range_more arities more k (Pers p) h = in_range_more arities more k p h
+in_range_more arities more k (Upd p) h = in_range_more arities more k p h
+in_range_more arities more k (Pts l u v) h = h
+in_range_more arities more k (Call p ts) h = (arity_more arities more p (length ts) h.0, h.1)
+
+pred_more : (arities more : List ℕ) (names : List (List ℕ)) (q : Pred) → PredFits arities names q → PredFits (arities ++ more) names q
+pred_more arities more names q fits = record {
+  named = fits.named;
+  new = fits.new;
+  arity = arity_more arities more (length names) q.arity fits.arity;
+  body = record { in_range = in_range_more arities more q.arity q.body fits.body.in_range; levels = fits.body.levels };
+}
+
+pub begins_more : (arities more : List ℕ) (qs : List Pred) → AritiesFit (arities ++ more) → BeginsTable arities qs → BeginsTable (arities ++ more) qs
+begins_more arities more qs fit b = record {
+  fit = fit;
+  each = λ before q behind e. pred_more arities more (names_of before) q (b.each before q behind e);
+  guarded = b.guarded;
+}
+
+over_more : (arities more : List ℕ) (ls : List Statement) → AllByRecursion (λ (l : Statement). InRange arities 0 l.formula) ls → AllByRecursion (λ (l : Statement). InRange (arities ++ more) 0 l.formula) ls
+over_more arities more [] h = tt
+over_more arities more (l ∷ ls) h = (in_range_more arities more 0 l.formula h.0, over_more arities more ls h.1)
+
+-- ---- one more at the end
+
+arities_end : (qs : List Pred) (q : Pred) → arities_of (qs ++ q ∷ []) ≡ arities_of qs ++ q.arity ∷ []
+arities_end [] q = refl
+arities_end (x ∷ qs) q = ap (λ (ns : List ℕ). x.arity ∷ ns) (arities_end qs q)
+
+length_end : (qs : List Pred) (n : ℕ) → length (arities_of qs ++ n ∷ []) ≡ suc (length qs)
+length_end [] n = refl
+length_end (x ∷ qs) n = ap suc (length_end qs n)
+
+all_end : {A : Type 0} (P : A → Type 0) (xs : List A) (x : A) → AllByRecursion P xs → P x → AllByRecursion P (xs ++ x ∷ [])
+all_end P [] x all here = (here, tt)
+all_end P (y ∷ xs) x all here = (all.0, all_end P xs x all.1 here)
+
+arity_end : (qs : List Pred) (n : ℕ) → HasArity (arities_of qs ++ n ∷ []) (length (names_of qs)) n
+arity_end [] n = refl
+arity_end (x ∷ qs) n = arity_end qs n
+
+fit_end : (qs : List Pred) (n : ℕ) → AritiesFit (arities_of qs) → length qs < 64 → n ≤ 64 → AritiesFit (arities_of qs ++ n ∷ [])
+fit_end qs n fit few small = (let l : length (arities_of qs ++ n ∷ []) ≡ suc (length qs) = length_end qs n in omega (arith, l, few), all_end (λ (a : ℕ). a ≤ 64) (arities_of qs) n fit.1 small)
+
+-- ---- states
+
+pub sound_start : IsSound start
+sound_start = record { table_begins = table_none [] (omega arith, tt); lemmas_over = tt; proof_sound = tt }
+
+closed_sound : (s : State) (o : Option OpenProof) → ¬ IsTrue (is_some o) → ProofIsSound s o
+closed_sound s None never = tt
+closed_sound s (Some p) never = absurd (never refl)
+
+abbrev defined : List ℕ → List (List ℕ) → Formula → Pred
+defined name params body = record { name = name; arity = length params; body = body }
+
+defined_fits : (s : State) (name : List ℕ) (params : List (List ℕ)) (body : Formula) → IsSayable s (sentence.Predicate name params body) → ¬ IsTrue (is_used s name) → PredFits (arities_of s.preds ++ length params ∷ []) (names_of s.preds) (defined name params body)
+defined_fits s name params body sayable unused = record {
+  named = sayable.0;
+  new = ap not (taken_by s.preds name ∙ (neither (list_any (λ (q : Pred). bytes_eq q.name name) s.preds) (list_any (λ (l : Statement). bytes_eq l.name name) s.lemmas) unused).0);
+  arity = arity_end s.preds (length params);
+  body = record { in_range = sayable.1; levels = let d : depth_of body ≤ 200 = sayable.2 in omega (arith, d) };
+}
+
+with_defined : (s : State) (name : List ℕ) (params : List (List ℕ)) (body : Formula) → IsSound s → IsSayable s (sentence.Predicate name params body) → ¬ IsTrue (is_open s) → ¬ IsTrue (is_used s name) → CallsBelow (length s.preds) body → length s.preds < 64 → length params ≤ 64 → IsSound (with_predicate s name params body)
+with_defined s name params body sound sayable closed unused below few small =
+    let fit : AritiesFit (arities_of s.preds ++ length params ∷ []) = fit_end s.preds (length params) sound.table_begins.fit few small in
+    let longer : BeginsTable (arities_of s.preds ++ length params ∷ []) s.preds = begins_more (arities_of s.preds) (length params ∷ []) s.preds fit sound.table_begins in
+    record {
+      table_begins = subst (λ (ns : List ℕ). BeginsTable ns (s.preds ++ defined name params body ∷ [])) (sym (arities_end s.preds (defined name params body))) (table_more (arities_of s.preds ++ length params ∷ []) s.preds (defined name params body) longer (defined_fits s name params body sayable unused) below);
+      lemmas_over = subst (λ (ns : List ℕ). AllByRecursion (λ (l : Statement). InRange ns 0 l.formula) s.lemmas) (sym (arities_end s.preds (defined name params body))) (over_more (arities_of s.preds) (length params ∷ []) s.lemmas sound.lemmas_over);
+      proof_sound = closed_sound (with_predicate s name params body) s.proof closed;
+    }
+
+pub sound_predicate : (s : State) (name : List ℕ) (params : List (List ℕ)) (body : Formula) → IsSound s → IsSayable s (sentence.Predicate name params body) → predicate_rows s name params body None → IsSound (with_predicate s name params body)
+sound_predicate s name params body sound sayable rows =
+    let closed = none_when rows in
+    let unused = none_when closed.1 in
+    let below = none_when unused.1 in
+    let few = none_when below.1 in
+    let small = none_when few.1 in
+    with_defined s name params body sound sayable closed.0 unused.0 (calls_below (length s.preds) body below.0) (not_below 64 (length s.preds) few.0) (not_above 64 (length params) small.0)
+
+pub sound_lemma : (s : State) (name : List ℕ) (statement : Formula) → IsSound s → IsSayable s (sentence.Lemma name statement) → lemma_rows s name statement None → IsSound (opened s name statement)
+sound_lemma s name statement sound sayable rows =
+    let closed = none_when rows in
+    let unused = none_when closed.1 in
+    record {
+      table_begins = sound.table_begins;
+      lemmas_over = sound.lemmas_over;
+      proof_sound = record { named = sayable.0; new = not_true (is_used s name) unused.0; over = sayable.1; shallow = sayable.2 };
+    }
+
+pub open_provable : (s : State) (p : OpenProof) → s.proof ≡ Some p → IsSound s → IsProvable s p.name p.statement
+open_provable s p e sound = subst (ProofIsSound s) e sound.proof_sound
+
+pub sound_qed : (s : State) (p : OpenProof) → s.proof ≡ Some p → IsSound s → IsSound (proved s p)
+sound_qed s p e sound = record {
+  table_begins = sound.table_begins;
+  lemmas_over = all_end (λ (l : Statement). InRange (arities_of s.preds) 0 l.formula) s.lemmas (record { name = p.name; formula = p.statement }) sound.lemmas_over (open_provable s p e sound).over;
+  proof_sound = tt;
+}
+
+pub sound_step : (s : State) (p : OpenProof) (gs : List Goal) → s.proof ≡ Some p → IsSound s → IsSound (with_proof s (Some (record p { goals = gs })))
+sound_step s p gs e sound =
+    let h : IsProvable s p.name p.statement = open_provable s p e sound in
+    record {
+      table_begins = sound.table_begins;
+      lemmas_over = sound.lemmas_over;
+      proof_sound = record { named = h.named; new = h.new; over = h.over; shallow = h.shallow };
+    }
+
+-- ---- names
+
+stated : (ls : List Statement) (name : List ℕ) → is_stated (map (λ (l : Statement). l.name) ls) name ≡ list_any (λ (l : Statement). bytes_eq l.name name) ls
+stated [] name = refl
+stated (l ∷ ls) name = ap (λ b. b || is_stated (map (λ (l : Statement). l.name) ls) name) (turned name l.name) ∙ ap (λ b. bytes_eq l.name name || b) (stated ls name)
+
+pub new_qed : (s : State) (p : OpenProof) → s.proof ≡ Some p → IsSound s → IsNew s.lemmas p.name × IsTrue (is_name p.name) × (depth_of p.statement ≤ 200)
+new_qed s p e sound =
+    let h : IsProvable s p.name p.statement = open_provable s p e sound in
+    (stated s.lemmas p.name ∙ or_other (list_any (λ (q : Pred). bytes_eq q.name p.name) s.preds) (list_any (λ (l : Statement). bytes_eq l.name p.name) s.lemmas) h.new, h.named, h.shallow)
+
+or_first : (a b c : Bool) → ((a || (c || false)) || b) ≡ ((a || b) || c)
+or_first true b c = refl
+or_first false true true = refl
+or_first false true false = refl
+or_first false false true = refl
+or_first false false false = refl
+
+or_last : (a b c : Bool) → (a || (b || (c || false))) ≡ ((a || b) || c)
+or_last true b c = refl
+or_last false true c = refl
+or_last false false true = refl
+or_last false false false = refl
+
+pub names_with_predicate : (s : State) (name : List ℕ) (params : List (List ℕ)) (body : Formula) (n : List ℕ) → is_used (with_predicate s name params body) n ≡ (is_used s n || bytes_eq n name)
+names_with_predicate s name params body n =
+    ap (λ b. b || list_any (λ (l : Statement). bytes_eq l.name n) s.lemmas) (list_any-append (λ (q : Pred). bytes_eq q.name n) s.preds (defined name params body ∷ []))
+    ∙ or_first (list_any (λ (q : Pred). bytes_eq q.name n) s.preds) (list_any (λ (l : Statement). bytes_eq l.name n) s.lemmas) (bytes_eq name n)
+    ∙ ap (λ b. is_used s n || b) (turned name n)
+
+pub names_proved : (s : State) (p : OpenProof) (n : List ℕ) → is_used (proved s p) n ≡ (is_used s n || bytes_eq n p.name)
+names_proved s p n =
+    ap (λ b. list_any (λ (q : Pred). bytes_eq q.name n) s.preds || b) (list_any-append (λ (l : Statement). bytes_eq l.name n) s.lemmas (record { name = p.name; formula = p.statement } ∷ []))
+    ∙ or_last (list_any (λ (q : Pred). bytes_eq q.name n) s.preds) (list_any (λ (l : Statement). bytes_eq l.name n) s.lemmas) (bytes_eq p.name n)
+    ∙ ap (λ b. is_used s n || b) (turned p.name n)
+
+pub names_opened : (s : State) (name : List ℕ) (statement : Formula) (n : List ℕ) → is_used (opened s name statement) n ≡ is_used s n
+names_opened s name statement n = refl
+
+pub names_with_proof : (s : State) (o : Option OpenProof) (n : List ℕ) → is_used (with_proof s o) n ≡ is_used s n
+names_with_proof s o n = refl

@@ -1,0 +1,285 @@
+//! A script that is being run.
+
+ghost use Rattle.std.specs.Prelude.{◌≡◌, ◌≤◌, ◌<◌, ◌^◌, not, IfOk, IsTrue, length, is_some};
+ghost use Rattle.std.specs.Bool.{OnTrue};
+ghost use Rattle.pm_check.specs.Kept.{has_name, Adds};
+ghost use Rattle.pm_run.specs.Rows.{refusal};
+ghost use Rattle.pm_run.specs.Runs.{start, opening};
+ghost use Rattle.pm_run.specs.Stepping.{HasOnlySpatial, step_view};
+ghost use Rattle.pm_run.specs.Steps.{step_of};
+ghost use Rattle.pm_run.specs.Keeping.{Keeps, IsKept, PredicateRow, LemmaRow, AddsPredicate, Opens, Begins, Closes, Directs, DirectsIf, DoesSentence};
+
+use crate::goals::{Stepped, large_row, row_if, step_stage};
+use crate::proof::{Proof, Stage};
+use crate::row::{Refusal, Row, gives_name};
+use crate::step::{Step, step_of};
+use pm_derive::Derivation;
+use pm_goal::Goal;
+use pm_logic::{Formula, List, Memory, Name, Pred, Preds, copy, copy_name, depth, guarded, nodes};
+use pm_script::{Directive, Sentence};
+use std::alloc::Global;
+use std::collections::HashSet;
+
+/// What has become of a script so far: its predicates, its proved lemmas, and the proof that is open.
+#[derive(Drop)]
+pub struct Running {
+    pub preds: Preds,
+    /// The names of predicates and proved lemmas.
+    pub names: HashSet<Vec<u8>>,
+    /// How many lemmas are proved, up to the 10,000 that may be.
+    pub lemmas: usize,
+    pub derivation: Derivation,
+    pub proof: Option<Proof>,
+}
+
+/// What has become of a sentence.
+#[derive(Drop)]
+pub enum Done {
+    /// It was done.
+    Moved,
+    Refused(Refusal),
+    /// It is none that is built.
+    Unbuilt,
+}
+
+/// A refusal by this row of what is about this name.
+fn refused(alloc: Global, row: Row, name: &Name) -> Result<Done, Memory>
+    ensures { IfOk result (λ d. d ≡ Done.Refused (refusal row name.now)) }
+{
+    if gives_name(row) {
+        let name = Some(copy_name(alloc, name)?);
+        Ok(Done::Refused(Refusal { row, name }))
+    } else {
+        Ok(Done::Refused(Refusal { row, name: None }))
+    }
+}
+
+/// Adds a name to a set, and answers whether it is new.
+#[tactic(auto, using(crate::proofs::Names::added))]
+fn add_name(alloc: Global, names: &mut HashSet<Vec<u8>>, name: &Name) -> Result<bool, Memory>
+    ensures new { IfOk result (λ b. b ≡ not (has_name names.old name.now)) }
+    ensures added { IfOk result (λ b. OnTrue b (Adds names.old names.new name.now)) }
+{
+    let key = Vec::from_slice(alloc, name.bytes())?;
+    Ok(names.insert(key)?)
+}
+
+/// The goal that a lemma opens with.
+fn opening(alloc: Global, statement: &Formula) -> Result<Goal, Memory>
+    ensures { IfOk result (λ goal. goal ≡ opening statement.now) }
+{
+    let concl = copy(alloc, statement)?;
+    Ok(Goal {
+        vars: List::new(alloc),
+        pures: List::new(alloc),
+        ints: List::new(alloc),
+        spats: List::new(alloc),
+        concl,
+    })
+}
+
+impl Running {
+    /// Nothing was done yet.
+    pub fn new(alloc: Global) -> Running
+        ensures { Keeps result start }
+    {
+        Running {
+            preds: Preds {
+                list: List::new(alloc),
+            },
+            names: HashSet::new(alloc),
+            lemmas: 0,
+            derivation: Derivation::new(alloc),
+            proof: None,
+        }
+    }
+
+    fn is_open(&self) -> bool
+        ensures { result ≡ is_some self.now.proof }
+    {
+        self.proof.is_some()
+    }
+
+    fn is_used(&self, name: &Name) -> bool
+        ensures { result ≡ has_name self.now.names name.now }
+    {
+        self.names.contains(name.bytes())
+    }
+
+    /// The row that refuses a predicate, which is the last of the table already: with this many parameters, and a body of
+    /// so many nodes and so deep.
+    fn predicate_row(&self, used: bool, count: usize, all: u64, deepest: u32) -> Option<Row>
+        requires some { 1 ≤ length self.now.preds.list }
+        requires few { length self.now.preds.list < 2 ^ 32 }
+        ensures { PredicateRow self.now used count all deepest result }
+    {
+        let last = self.preds.list.len() - 1;
+        let deep = row_if(deepest > 200, Row::X4, None);
+        let large = row_if(all > 4_000, Row::X3, deep);
+        let wide = row_if(count > 64, Row::X1, large);
+        let many = row_if(last >= 64, Row::X6, wide);
+        let free = row_if(!guarded(&self.preds, last as u32), Row::Q7, many);
+        row_if(self.is_open(), Row::Q2, row_if(used, Row::Q4, free))
+    }
+
+    /// Defines a predicate with this many parameters.
+    pub fn predicate(
+        &mut self,
+        alloc: Global,
+        name: Name,
+        count: usize,
+        body: Formula,
+    ) -> Result<Done, Memory>
+        requires { IsKept self.now }
+        ensures { IfOk result (AddsPredicate self.old name count body self.new) }
+    {
+        let used = self.is_used(&name);
+        let label = copy_name(alloc, &name)?;
+        let all = nodes(&body);
+        let deepest = depth(&body);
+        // More are refused.
+        let arity = count.min(65) as u32;
+        self.preds.list.push(Pred { name, arity, body })?;
+        match self.predicate_row(used, count, all, deepest) {
+            Some(row) => refused(alloc, row, &label),
+            None => {
+                add_name(alloc, &mut self.names, &label)?;
+                Ok(Done::Moved)
+            }
+        }
+    }
+
+    /// The row that refuses a lemma that opens with this goal.
+    fn lemma_row(&self, used: bool, goal: &Goal) -> Option<Row>
+        requires { HasOnlySpatial goal.now }
+        ensures { LemmaRow self.now used goal.now result }
+    {
+        let large = large_row(goal, None);
+        let many = row_if(self.lemmas >= 10_000, Row::X7, large);
+        row_if(self.is_open(), Row::Q2, row_if(used, Row::Q4, many))
+    }
+
+    /// Opens the proof of a lemma.
+    pub fn lemma(&mut self, alloc: Global, name: Name, statement: Formula) -> Result<Done, Memory>
+        ensures { IfOk result (Opens self.old name statement self.new) }
+    {
+        let used = self.is_used(&name);
+        let goal = opening(alloc, &statement)?;
+        match self.lemma_row(used, &goal) {
+            Some(row) => refused(alloc, row, &name),
+            None => {
+                self.proof = Some(Proof {
+                    name,
+                    statement,
+                    count: 0,
+                    stage: Stage::Left(goal),
+                });
+                Ok(Done::Moved)
+            }
+        }
+    }
+
+    /// Begins a proof that is open.
+    pub fn begin(&mut self) -> Done
+        ensures { Begins self.old self.new result }
+    {
+        if self.is_open() {
+            Done::Moved
+        } else {
+            Done::Refused(Refusal {
+                row: Row::Q1,
+                name: None,
+            })
+        }
+    }
+
+    /// Ends the open proof.
+    pub fn qed(&mut self, alloc: Global) -> Result<Done, Memory>
+        requires { IsKept self.now }
+        ensures { IfOk result (Closes self.old self.new) }
+    {
+        let Some(proof) = self.proof.take() else {
+            return Ok(Done::Refused(Refusal {
+                row: Row::Q1,
+                name: None,
+            }));
+        };
+        match proof.stage {
+            Stage::Left(_) => Ok(Done::Refused(Refusal {
+                row: Row::Q3,
+                name: None,
+            })),
+            Stage::Closed(place) => {
+                self.derivation
+                    .lemma(alloc, &proof.name, &proof.statement, proof.count, place)?;
+                add_name(alloc, &mut self.names, &proof.name)?;
+                self.lemmas = self.lemmas.saturating_add(1).min(10_000);
+                Ok(Done::Moved)
+            }
+        }
+    }
+
+    /// Does a directive on the goal that is left.
+    pub fn directive(&mut self, alloc: Global, step: Step) -> Result<Done, Memory>
+        requires { IsKept self.now }
+        ensures { IfOk result (Directs self.old (step_view step.entry) self.new) }
+    {
+        let Some(proof) = self.proof.take() else {
+            return Ok(Done::Refused(Refusal {
+                row: Row::Q1,
+                name: None,
+            }));
+        };
+        match step_stage(alloc, proof.stage, step)? {
+            Stepped::Refused(row) => refused(alloc, row, step.name()),
+            Stepped::Moved(stage) => {
+                self.proof = Some(Proof {
+                    name: proof.name,
+                    statement: proof.statement,
+                    count: proof.count + step.introduces(),
+                    stage,
+                });
+                Ok(Done::Moved)
+            }
+        }
+    }
+
+    /// Does a directive, if it is built.
+    fn any_directive(&mut self, alloc: Global, directive: &Directive) -> Result<Done, Memory>
+        requires { IsKept self.now }
+        ensures { IfOk result (DirectsIf self.old (step_of directive.now) self.new) }
+    {
+        match step_of(directive) {
+            Some(step) => self.directive(alloc, step),
+            None => Ok(Done::Unbuilt),
+        }
+    }
+
+    /// Does a sentence.
+    pub fn sentence(&mut self, alloc: Global, sentence: &Sentence) -> Result<Done, Memory>
+        requires { IsKept self.now }
+        ensures { IfOk result (DoesSentence self.old sentence.now self.new) }
+    {
+        match sentence {
+            Sentence::Predicate { name, params, body } => {
+                let name = copy_name(alloc, name)?;
+                let body = copy(alloc, body)?;
+                self.predicate(alloc, name, params.len(), body)
+            }
+            Sentence::Lemma { name, statement } => {
+                let name = copy_name(alloc, name)?;
+                let statement = copy(alloc, statement)?;
+                self.lemma(alloc, name, statement)
+            }
+            Sentence::Proof => Ok(self.begin()),
+            Sentence::Qed => self.qed(alloc),
+            Sentence::Directive(directive) => self.any_directive(alloc, directive),
+            Sentence::Abort
+            | Sentence::Restart
+            | Sentence::Show
+            | Sentence::Undo(_)
+            | Sentence::Enter
+            | Sentence::Leave => Ok(Done::Unbuilt),
+        }
+    }
+}

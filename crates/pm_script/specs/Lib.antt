@@ -1,0 +1,2 @@
+pub mod SentenceReading
+pub mod Words

@@ -1,0 +1,16 @@
+pub mod Derived
+pub mod Fitted
+pub mod Sound
+pub mod PatternsDerived
+pub mod CertsDerived
+pub mod PartsDerived
+pub mod DirectivesDerived
+pub mod SentencesDerived
+pub mod Complete
+pub mod PatternsRead
+pub mod QuotedRead
+pub mod CertsRead
+pub mod PartsRead
+pub mod KnownWords
+pub mod DirectivesRead
+pub mod SentencesRead

@@ -1,0 +1,4 @@
+pub mod Fitting
+pub mod PatternGrammar
+pub mod SentenceGrammar
+pub mod SentenceLaws

@@ -1,5 +1,0 @@
-use Rattle.std.proofs.Common.{length}
-use Rattle.pm_top.proofs.writer.+put_closing.Given as goal
-
-abbrev pub decreases-put_closing : goal.decreases-put_closing
-decreases-put_closing l = length l.hyps.now
