@@ -40,7 +40,8 @@ impl Derivation {
 
     /// Adds lines that derive `statement` and state it under `name`. They introduce the first `count` left sides of its
     /// wands and implications, the outermost first, and close by the one at `place`, counted from 0, which is what stands
-    /// behind them. `name` is a name, and `statement` is less than 1,000 deep.
+    /// behind them. `name` is a name, and `statement` is less than 1,000 deep. Where a statement before has the name,
+    /// nothing is known of the value anymore.
     ///
     /// The error is want of memory, and then some of the lines may stand there: nothing is known of the value anymore.
     pub fn lemma(
@@ -83,8 +84,9 @@ impl Derivation {
         put_qed(alloc, &mut self.text, name.bytes(), number)
     }
 
-    /// The whole text: a table of these predicates and the lines, which are a derivation of what they state where each
-    /// statement is over the table. The error is want of memory, and then there is no text.
+    /// The whole text: a table of these predicates, which begin one, and the lines. Where the lines state something and
+    /// each statement is over the table, the text is a derivation of it. The error is want of memory, and then there is no
+    /// text.
     pub fn finish(self, alloc: Global, preds: &Preds) -> Result<Bytes, Memory>
         requires { BeginsTable (arities_of preds.now.list) preds.now.list }
         ensures { IfOk result (λ text. (statements : List Statement) → States self statements → AreOver preds.now statements → IsDerivation text preds.now statements) }

@@ -1,6 +1,6 @@
 -- What sentences do to what a running script keeps.
-use Rattle.std.proofs.Common.{◌≡◌, ◌⊎◌, inl, inr, ℕ, suc, ◌+◌, ◌-◌, ◌^◌, ◌<◌, ◌≤◌, min, Bool, true, false, not, ◌||◌, List, [], ◌∷◌, ◌++◌, length, length-append, append-nil, refl, sym, ◌∙◌, ap, ap₂, subst, arith, Option, Some, None, Result, Ok, Err}
-use Rattle.std.specs.Prelude.{IsTrue, IfOk, OnOk, is_some}
+use Rattle.std.proofs.Common.{◌≡◌, ◌⊎◌, inl, inr, ℕ, ◌+◌, ◌-◌, ◌^◌, ◌<◌, ◌≤◌, min, Bool, true, false, not, ◌||◌, List, [], ◌∷◌, ◌++◌, length, length-append, append-nil, refl, sym, ◌∙◌, ap, ap₂, subst, arith, Option, Some, None, Result, Ok, Err}
+use Rattle.std.specs.Prelude.{IsTrue, IfOk, is_some}
 use Rattle.std.specs.Bool.{OnTrue}
 use Rattle.std.specs.Str.{bytes_eq}
 use Rattle.pm_logic.specs.declared.formula.Formula.{Formula}
@@ -9,8 +9,9 @@ use Rattle.pm_logic.specs.Size.{depth_of}
 use Rattle.pm_names.specs.Names.{is_name}
 use Rattle.pm_check.specs.declared.checked.Statement.{Statement}
 use Rattle.pm_check.specs.Kept.{NameSet, has_name, Adds}
+use Rattle.pm_derive.proofs.Lawful.{sides_are_grown}
 use Rattle.pm_derive.specs.declared.derivation.Derivation.{Derivation}
-use Rattle.pm_derive.specs.Sides.{sides, IsProvedBy}
+use Rattle.pm_derive.specs.Sides.{IsProvedBy}
 use Rattle.pm_derive.specs.Stating.{IsNew, States}
 use Rattle.pm_goal.specs.declared.goal.Goal.{Goal}
 use Rattle.pm_script.specs.declared.sentence.Sentence.{Sentence}
@@ -20,15 +21,14 @@ use Rattle.pm_run.specs.declared.row.Row.TheVariants.{Q1, Q3, Q9}
 use Rattle.pm_run.specs.declared.proof.Stage.{Stage}
 use Rattle.pm_run.specs.declared.proof.Stage.TheVariants as stage
 use Rattle.pm_run.specs.declared.proof.Proof.{Proof}
-use Rattle.pm_run.specs.declared.goals.Stepped.{Stepped}
 use Rattle.pm_run.specs.declared.goals.Stepped.TheVariants as stepped
 use Rattle.pm_run.specs.declared.running.Running.{Running}
 use Rattle.pm_run.specs.declared.running.Done.{Done}
 use Rattle.pm_run.specs.declared.running.Done.TheVariants as done
-use Rattle.pm_run.specs.Rows.{Table, when, no_row, refusal}
-use Rattle.pm_run.specs.Steps.{Step, step_of, step_name, step_rows, step_goals}
-use Rattle.pm_run.specs.Stepping.{HasOnlySpatial, HasFew, IsUnder, StageFits, goals_of, introduces, Moves, StageStepped, StageIsSmall}
-use Rattle.pm_run.specs.Runs.{OpenProof, State, Answer, moves, refuses, unbuilt, Answers, is_open, is_used, opening, predicate_rows, with_predicate, lemma_rows, opened, with_proof, proved, proof_rows, qed_rows, qed_state, directive_rows, directive_state, goal_rows, new_goals, Does}
+use Rattle.pm_run.specs.Rows.{Table, no_row, refusal}
+use Rattle.pm_run.specs.Steps.{Step, step_of, step_name, step_goals}
+use Rattle.pm_run.specs.Stepping.{IsUnder, StageFits, goals_of, introduces, StageStepped, StageIsSmall}
+use Rattle.pm_run.specs.Runs.{OpenProof, State, Answer, moves, refuses, unbuilt, Answers, is_used, opening, predicate_rows, with_predicate, lemma_rows, opened, proved, proof_rows, qed_rows, qed_state, directive_rows, directive_state, goal_rows, new_goals, Does}
 use Rattle.pm_run.specs.Runs as runs
 use Rattle.pm_script.specs.declared.directive.Directive.{Directive}
 use Rattle.pm_run.specs.Keeping.{DirectsIf, KeepsProof, KeepsProofs, IsSayable, Keeps, IsAnswered, IsDone, IsDoing}
@@ -126,10 +126,6 @@ predicate_added old list names s name params body count arity is_new k sayable c
 
 -- ---- lemmas
 
-zero_sides : (f : Formula) → sides 0 f ≡ Some ([], f)
-unfolding sides
-zero_sides f = refl
-
 pub lemma_opened : (old : Running) (s : State) (name : List ℕ) (statement : Formula) (goal : Goal) → Keeps old s → IsSayable s (sentence.Lemma name statement) → goal ≡ opening statement → lemma_rows s name statement None
     → lemma_rows s name statement None × Keeps (record { preds = old.preds; names = old.names; lemmas = old.lemmas; derivation = old.derivation; proof = Some (record { name = name; statement = statement; count = 0; stage = stage.Left goal }) }) (opened s name statement)
 lemma_opened old s name statement goal k sayable is rows = (
@@ -143,7 +139,7 @@ lemma_opened old s name statement goal k sayable is rows = (
       name_is = refl;
       statement_is = refl;
       goals_are = ap (λ g. g ∷ []) is;
-      fits = subst (IsUnder statement 0) (sym is) (record { apart = zero_sides statement; spatial = record { vars = refl; pures = refl; ints = refl }; few = omega arith; count_is = refl });
+      fits = subst (IsUnder statement 0) (sym is) (record { apart = sides_are_grown.none statement; spatial = record { vars = refl; pures = refl; ints = refl }; few = omega arith; count_is = refl });
     };
     sound = sound_lemma s name statement k.sound sayable rows;
   },

@@ -1,12 +1,10 @@
 -- How the code of a whole script goes from sentence to sentence.
-use Rattle.std.proofs.Common.{◌≡◌, ◌⊎◌, inl, inr, ℕ, ◌+◌, ◌<◌, ◌≤◌, ◌^◌, Bool, true, false, List, [], ◌∷◌, ◌++◌, length, take, drop, get_or, ap₂, ◌-◌, map, refl, sym, ◌∙◌, ap, subst, arith, Option, Some, None}
+use Rattle.std.proofs.Common.{◌≡◌, ◌⊎◌, inl, inr, ℕ, ◌+◌, ◌≤◌, true, false, List, [], ◌∷◌, ◌++◌, length, take, drop, get_or, ap₂, ◌-◌, refl, sym, ◌∙◌, ap, subst, arith, Option, Some, None}
 use Rattle.std.specs.Prelude.{is_some, reverse, Ok, Err}
-use Rattle.std.specs.List.{AllByRecursion}
 use Rattle.std.proofs.Math.Seq.{drop-length, drop-append_seam}
 use Rattle.std.proofs.lemmas.List.{append-nil, length-map, take_all}
 use Rattle.pm_logic.specs.declared.formula.Formula.{Formula}
 use Rattle.pm_logic.specs.declared.formula.Pred.{Pred}
-use Rattle.pm_logic.specs.declared.formula.Preds.{Preds}
 use Rattle.pm_check.specs.declared.checked.Statement.{Statement}
 use Rattle.pm_check.specs.Derivation.{IsDerivation}
 use Rattle.pm_check.specs.Table.{BeginsTable}
@@ -39,10 +37,10 @@ use Rattle.pm_run.specs.declared.running.Done.TheVariants as done
 use Rattle.pm_run.specs.declared.script.Stop.{Stop}
 use Rattle.pm_run.specs.declared.script.Stop.TheVariants as stop
 use Rattle.pm_run.specs.Stepping.{StageFits, goals_of}
-use Rattle.pm_run.specs.Runs.{OpenProof, State, start, is_open, scope, scope_by, Answer, moves, refuses, unbuilt, Does, Outcome, accepted, refused, unreadable, RunsFrom, does_not_read, is_unbuilt, is_refused, goes_on, is_cut_off, ends_inside, ends}
+use Rattle.pm_run.specs.Runs.{OpenProof, State, start, scope, scope_by, Answer, moves, refuses, unbuilt, Does, Outcome, accepted, refused, unreadable, RunsFrom, does_not_read, is_unbuilt, is_refused, goes_on, is_cut_off, ends_inside, ends}
 use Rattle.pm_run.specs.Keeping.{Keeps, KeepsProofs, IsKept, IsDone, DoesSentence}
 use Rattle.pm_run.specs.Coming.{limit, ComesTo}
-use Rattle.pm_run.specs.Looping.{outcome, stop_of, stopped, Leads, Stops, Goes, AtSpan, AtSpans, LeadsTo, IsShort, AreShort, ProvesFrom, ComesFrom, end_parts, end_rest, Ends, EndsWith, EndIsShort, IsCut}
+use Rattle.pm_run.specs.Looping.{outcome, stop_of, stopped, Goes, AtSpan, AtSpans, LeadsTo, IsShort, AreShort, ComesFrom, end_parts, end_rest, Ends, EndsWith, EndIsShort, IsCut}
 
 -- ---- what a state that is kept tells
 

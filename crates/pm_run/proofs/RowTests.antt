@@ -1,6 +1,6 @@
 -- The rows of predicates and lemmas, by what the code tests.
-use Rattle.std.proofs.Common.{◌≡◌, ◌↔◌, ◌⊎◌, ℕ, suc, ◌-◌, ◌^◌, ◌<◌, ◌≤◌, min, Bool, true, false, not, List, [], ◌∷◌, ◌++◌, length, length-append, refl, sym, ◌∙◌, ap, subst, arith, Option, Some, None}
-use Rattle.std.specs.Prelude.{IsTrue, is_some, nat_lt, nat_le}
+use Rattle.std.proofs.Common.{◌≡◌, ◌↔◌, ℕ, ◌-◌, ◌^◌, ◌<◌, ◌≤◌, min, Bool, true, false, not, List, [], ◌∷◌, ◌++◌, length, length-append, refl, sym, ◌∙◌, ap, subst, arith, Option, None}
+use Rattle.std.specs.Prelude.{IsTrue, nat_lt, nat_le}
 use Rattle.std.proofs.lemmas.Bool.Decides.{nat_tests}
 use Rattle.pm_logic.specs.declared.formula.Formula.{Formula}
 use Rattle.pm_logic.specs.declared.formula.Pred.{Pred}
@@ -12,7 +12,7 @@ use Rattle.pm_run.specs.declared.row.Row.{Row}
 use Rattle.pm_run.specs.declared.row.Row.TheVariants.{Q2, Q4, Q7, X1, X3, X4, X6, X7}
 use Rattle.pm_run.specs.Rows.{Table, when, row_if, no_row, when_large}
 use Rattle.pm_run.specs.Runs.{State, is_open, is_used, opening, predicate_rows, lemma_rows}
-use Rattle.pm_run.proofs.Steppings.{row_is, row_where, row_above, large_as}
+use Rattle.pm_run.proofs.Steppings.{row_is, row_where, row_above}
 
 body_last : (qs : List Pred) (q : Pred) → body_of (qs ++ q ∷ []) (length qs) ≡ q.body
 body_last [] q = refl

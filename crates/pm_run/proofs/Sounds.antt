@@ -3,12 +3,13 @@ use Rattle.std.proofs.Common.{◌≡◌, ◌⊎◌, inl, inr, ℕ, zero, suc, �
 use Rattle.std.proofs.lemmas.List.Folds.{list_any-append}
 use Rattle.std.proofs.lemmas.Slice.Eq.{bytes_eq-Decides}
 use Rattle.std.specs.Prelude.{IsTrue, is_some, not}
+use Rattle.std.specs.Bool.{Decides}
+use Rattle.pm_run.proofs.Decisions.{calls_below, decides_below}
+use Rattle.pm_derive.proofs.Lawful.{tables_are_grown}
 use Rattle.std.specs.List.{AllByRecursion, list_any}
 use Rattle.std.specs.Str.{bytes_eq}
 use Rattle.pm_logic.specs.declared.formula.Formula.{Formula}
-use Rattle.pm_logic.specs.declared.formula.Formula.TheVariants.{Pure as Fact, Pts, Call}
 use Rattle.pm_logic.specs.declared.formula.Pred.{Pred}
-use Rattle.pm_logic.specs.Trees.{Sep, Wand, And, Or, Imp, All, Ex, Later, Pers, Upd}
 use Rattle.pm_logic.specs.Guard.{CallsBelow}
 use Rattle.pm_logic.specs.Size.{depth_of}
 use Rattle.pm_names.specs.Names.{is_name}
@@ -66,22 +67,13 @@ same_tests false false to back = refl
 turned : (x y : List ℕ) → bytes_eq x y ≡ bytes_eq y x
 turned x y = same_tests (bytes_eq x y) (bytes_eq y x) (λ e. (bytes_eq-Decides y x).1 (sym ((bytes_eq-Decides x y).0 e))) (λ e. (bytes_eq-Decides x y).1 (sym ((bytes_eq-Decides y x).0 e)))
 
+settled : {P : Type 0} (r : Bool) → Decides r P → ¬ (¬ P) → P
+settled true d never = d.0 refl
+settled false d never = absurd (never (λ h. cc (d.1 h)))
+
 -- calls that can't but be below are below
-calls_below : (p : ℕ) (f : Formula) → ¬ (¬ CallsBelow p f) → CallsBelow p f
-unfolding CallsBelow
-calls_below p (Fact a) never = tt
-calls_below p (Sep a b) never = (calls_below p a (λ n. never (λ h. n h.0)), calls_below p b (λ n. never (λ h. n h.1)))
-calls_below p (Wand a b) never = (calls_below p a (λ n. never (λ h. n h.0)), calls_below p b (λ n. never (λ h. n h.1)))
-calls_below p (And a b) never = (calls_below p a (λ n. never (λ h. n h.0)), calls_below p b (λ n. never (λ h. n h.1)))
-calls_below p (Or a b) never = (calls_below p a (λ n. never (λ h. n h.0)), calls_below p b (λ n. never (λ h. n h.1)))
-calls_below p (Imp a b) never = (calls_below p a (λ n. never (λ h. n h.0)), calls_below p b (λ n. never (λ h. n h.1)))
-calls_below p (All a) never = calls_below p a never
-calls_below p (Ex a) never = calls_below p a never
-calls_below p (Later a) never = tt
-calls_below p (Pers a) never = calls_below p a never
-calls_below p (Upd a) never = calls_below p a never
-calls_below p (Pts l u v) never = tt
-calls_below p (Call q args) never = is_less q p never
+are_below : (p : ℕ) (f : Formula) → ¬ (¬ CallsBelow p f) → CallsBelow p f
+are_below p f never = settled (calls_below p f) (decides_below p f) never
 
 -- ---- ranges grow with the table
 
@@ -90,28 +82,12 @@ arity_more [] more p n h = absurd cc
 arity_more (a ∷ arities) more zero n h = h
 arity_more (a ∷ arities) more (suc p) n h = arity_more arities more p n h
 
-pub in_range_more : (arities more : List ℕ) (k : ℕ) (f : Formula) → InRange arities k f → InRange (arities ++ more) k f
-unfolding InRange
-in_range_more arities more k (Fact a) h = h
-in_range_more arities more k (Sep p q) h = (in_range_more arities more k p h.0, in_range_more arities more k q h.1)
-in_range_more arities more k (Wand p q) h = (in_range_more arities more k p h.0, in_range_more arities more k q h.1)
-in_range_more arities more k (And p q) h = (in_range_more arities more k p h.0, in_range_more arities more k q h.1)
-in_range_more arities more k (Or p q) h = (in_range_more arities more k p h.0, in_range_more arities more k q h.1)
-in_range_more arities more k (Imp p q) h = (in_range_more arities more k p h.0, in_range_more arities more k q h.1)
-in_range_more arities more k (All p) h = in_range_more arities more (suc k) p h
-in_range_more arities more k (Ex p) h = in_range_more arities more (suc k) p h
-in_range_more arities more k (Later p) h = in_range_more arities more k p h
-in_range_more arities more k (Pers p) h = in_range_more arities more k p h
-in_range_more arities more k (Upd p) h = in_range_more arities more k p h
-in_range_more arities more k (Pts l u v) h = h
-in_range_more arities more k (Call p ts) h = (arity_more arities more p (length ts) h.0, h.1)
-
 pred_more : (arities more : List ℕ) (names : List (List ℕ)) (q : Pred) → PredFits arities names q → PredFits (arities ++ more) names q
 pred_more arities more names q fits = record {
   named = fits.named;
   new = fits.new;
   arity = arity_more arities more (length names) q.arity fits.arity;
-  body = record { in_range = in_range_more arities more q.arity q.body fits.body.in_range; levels = fits.body.levels };
+  body = record { in_range = tables_are_grown.formula arities more q.arity q.body fits.body.in_range; levels = fits.body.levels };
 }
 
 pub begins_more : (arities more : List ℕ) (qs : List Pred) → AritiesFit (arities ++ more) → BeginsTable arities qs → BeginsTable (arities ++ more) qs
@@ -120,10 +96,6 @@ begins_more arities more qs fit b = record {
   each = λ before q behind e. pred_more arities more (names_of before) q (b.each before q behind e);
   guarded = b.guarded;
 }
-
-over_more : (arities more : List ℕ) (ls : List Statement) → AllByRecursion (λ (l : Statement). InRange arities 0 l.formula) ls → AllByRecursion (λ (l : Statement). InRange (arities ++ more) 0 l.formula) ls
-over_more arities more [] h = tt
-over_more arities more (l ∷ ls) h = (in_range_more arities more 0 l.formula h.0, over_more arities more ls h.1)
 
 -- ---- one more at the end
 
@@ -172,7 +144,7 @@ with_defined s name params body sound sayable closed unused below few small =
     let longer : BeginsTable (arities_of s.preds ++ length params ∷ []) s.preds = begins_more (arities_of s.preds) (length params ∷ []) s.preds fit sound.table_begins in
     record {
       table_begins = subst (λ (ns : List ℕ). BeginsTable ns (s.preds ++ defined name params body ∷ [])) (sym (arities_end s.preds (defined name params body))) (table_more (arities_of s.preds ++ length params ∷ []) s.preds (defined name params body) longer (defined_fits s name params body sayable unused) below);
-      lemmas_over = subst (λ (ns : List ℕ). AllByRecursion (λ (l : Statement). InRange ns 0 l.formula) s.lemmas) (sym (arities_end s.preds (defined name params body))) (over_more (arities_of s.preds) (length params ∷ []) s.lemmas sound.lemmas_over);
+      lemmas_over = tables_are_grown.statements s.preds (defined name params body ∷ []) s.lemmas sound.lemmas_over;
       proof_sound = closed_sound (with_predicate s name params body) s.proof closed;
     }
 
@@ -183,7 +155,7 @@ sound_predicate s name params body sound sayable rows =
     let below = none_when unused.1 in
     let few = none_when below.1 in
     let small = none_when few.1 in
-    with_defined s name params body sound sayable closed.0 unused.0 (calls_below (length s.preds) body below.0) (not_below 64 (length s.preds) few.0) (not_above 64 (length params) small.0)
+    with_defined s name params body sound sayable closed.0 unused.0 (are_below (length s.preds) body below.0) (not_below 64 (length s.preds) few.0) (not_above 64 (length params) small.0)
 
 pub sound_lemma : (s : State) (name : List ℕ) (statement : Formula) → IsSound s → IsSayable s (sentence.Lemma name statement) → lemma_rows s name statement None → IsSound (opened s name statement)
 sound_lemma s name statement sound sayable rows =

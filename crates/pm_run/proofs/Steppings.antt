@@ -1,14 +1,15 @@
 -- What directives do to goals.
-use Rattle.std.proofs.Common.{◌≡◌, ◌≢◌, ◌⊎◌, ◌↔◌, inl, inr, ℕ, zero, suc, ◌+◌, ◌-◌, ◌^◌, ◌<◌, ◌≤◌, min, max, Bool, true, false, cond, List, [], ◌∷◌, ◌++◌, length, map, get_or, refl, sym, ◌∙◌, ap, ap₂, subst, arith, Option, Some, None}
+use Rattle.std.proofs.Common.{◌≡◌, ◌≢◌, ◌⊎◌, ◌↔◌, inl, inr, ℕ, zero, suc, ◌+◌, ◌-◌, ◌^◌, ◌<◌, min, max, Bool, true, false, List, [], ◌∷◌, ◌++◌, length, get_or, refl, sym, ◌∙◌, ap, ap₂, subst, arith, Option, Some, None}
 use Rattle.std.specs.Prelude.{slice_get, IsTrue, position, nat_lt}
 use Rattle.std.proofs.lemmas.Bool.Decides.{nat_tests}
 use Rattle.std.specs.Str.{bytes_eq}
 use Rattle.std.specs.Option.{option_map}
 use Rattle.pm_logic.specs.declared.formula.Formula.{Formula}
 use Rattle.pm_logic.specs.declared.formula.Formula.TheViews as view
-use Rattle.pm_logic.specs.Trees.{Sep, Wand, And, Or, Imp, All, Ex, Later, Pers, Upd}
+use Rattle.pm_logic.specs.Trees.{Wand, Imp}
 use Rattle.pm_logic.proofs.Views.{view_wand, view_imp}
-use Rattle.pm_derive.specs.Sides.{sides, IsProvedBy}
+use Rattle.pm_derive.specs.Sides.{sides}
+use Rattle.pm_derive.proofs.Lawful.{sides_are_grown}
 use Rattle.pm_goal.specs.declared.goal.Hyp.{Hyp}
 use Rattle.pm_goal.specs.declared.goal.Goal.{Goal}
 use Rattle.pm_goal.specs.Left.{hyps}
@@ -20,7 +21,7 @@ use Rattle.pm_run.specs.declared.goals.Stepped.{Stepped}
 use Rattle.pm_run.specs.declared.goals.Stepped.TheVariants as stepped
 use Rattle.pm_run.specs.Rows.{Table, when, row_if, no_row, when_large, held, formulas, all_nodes, greatest_depth}
 use Rattle.pm_run.specs.Steps.{is_taken, sides_of, introduced, IsBlocked, hyp_at, hyp_of, intro, exact, step_rows, exact_rows}
-use Rattle.pm_run.specs.Stepping.{HasOnlySpatial, HasFew, IsUnder, StageFits, Moves, IsStepped, tested_rows, IsTested}
+use Rattle.pm_run.specs.Stepping.{HasOnlySpatial, HasFew, StageFits, Moves, IsStepped, tested_rows, IsTested}
 
 hyps_end : (hs : List Hyp) (name : List ℕ) (a : Formula) → hyps (hs ++ (record { name = name; formula = a } ∷ [])) ≡ hyps hs ++ a ∷ []
 hyps_end [] name a = refl
@@ -107,79 +108,24 @@ module _ (goal : Goal) (only : HasOnlySpatial goal) where
 
 -- ---- `iIntros`
 
-abbrev with_side : Formula → List Formula × Formula → List Formula × Formula
-with_side x s = (x ∷ s.0, s.1)
-
-first_side : (f : Formula) (implies : Bool) (a b : Formula) → sides_of f ≡ Some (implies, a, b) → (n : ℕ) → sides (suc n) f ≡ option_map (with_side a) (sides n b)
-unfolding sides
-first_side (Wand x y) implies a b e n =
-    let same : (false, x, y) ≡ (implies, a, b) = cc in
-    ap₂ (λ (u v : Formula). option_map (with_side u) (sides n v)) (ap (λ (p : Bool × Formula × Formula). p.1) same) (ap (λ (p : Bool × Formula × Formula). p.2) same)
-first_side (Imp x y) implies a b e n =
-    let same : (true, x, y) ≡ (implies, a, b) = cc in
-    ap₂ (λ (u v : Formula). option_map (with_side u) (sides n v)) (ap (λ (p : Bool × Formula × Formula). p.1) same) (ap (λ (p : Bool × Formula × Formula). p.2) same)
-first_side f implies a b e n = absurd cc
-
--- what the first of several left sides is
-pub record Split (n : ℕ) (f : Formula) (hs : List Formula) (c : Formula) : Type 0 where
-  implies : Bool
-  a : Formula
-  b : Formula
-  hs' : List Formula
-  first : sides_of f ≡ Some (implies, a, b)
-  others : sides n b ≡ Some (hs', c)
-  all : hs ≡ a ∷ hs'
-
-splits : (n : ℕ) (f : Formula) (hs : List Formula) (c : Formula) → sides (suc n) f ≡ Some (hs, c) → Split n f hs c
-unfolding sides
-splits n (Wand x y) hs c e = go (sides n y) refl e
-  where
-    go : (o : Option (List Formula × Formula)) → sides n y ≡ o → option_map (with_side x) o ≡ Some (hs, c) → Split n (Wand x y) hs c
-    go None e f = absurd cc
-    go (Some s) e f =
-        let same : with_side x s ≡ (hs, c) = cc in
-        let ec : s.1 ≡ c = ap (λ (p : List Formula × Formula). p.1) same in
-        let eh : hs ≡ x ∷ s.0 = ap (λ (p : List Formula × Formula). p.0) (sym same) in
-        record { implies = false; a = x; b = y; hs' = s.0; first = refl; others = e ∙ ap (λ d. Some (s.0, d)) ec; all = eh }
-splits n (Imp x y) hs c e = go (sides n y) refl e
-  where
-    go : (o : Option (List Formula × Formula)) → sides n y ≡ o → option_map (with_side x) o ≡ Some (hs, c) → Split n (Imp x y) hs c
-    go None e f = absurd cc
-    go (Some s) e f =
-        let same : with_side x s ≡ (hs, c) = cc in
-        let ec : s.1 ≡ c = ap (λ (p : List Formula × Formula). p.1) same in
-        let eh : hs ≡ x ∷ s.0 = ap (λ (p : List Formula × Formula). p.0) (sym same) in
-        record { implies = true; a = x; b = y; hs' = s.0; first = refl; others = e ∙ ap (λ d. Some (s.0, d)) ec; all = eh }
-splits n f hs c e = absurd cc
-
 suc_is : (n : ℕ) → suc n ≡ n + 1
 suc_is n = omega arith
 
 none_more : (n : ℕ) → n ≡ n + 0
 none_more n = omega arith
 
-sides_none : (f : Formula) → sides 0 f ≡ Some ([], f)
-unfolding sides
-sides_none f = refl
+both_sides : (p q : Bool × Formula × Formula) → p ≡ q → (p.1 ≡ q.1) × (p.2 ≡ q.2)
+both_sides p q e = (ap (λ (s : Bool × Formula × Formula). s.1) e, ap (λ (s : Bool × Formula × Formula). s.2) e)
 
 -- one left side more
 sides_more : (count : ℕ) (f : Formula) (hs : List Formula) (c : Formula) (implies : Bool) (a b : Formula) → sides count f ≡ Some (hs, c) → sides_of c ≡ Some (implies, a, b) → sides (suc count) f ≡ Some (hs ++ a ∷ [], b)
-sides_more zero f hs c implies a b at split =
-    let none : [] ≡ hs = ap (λ o. fronts o) (sym (sides_none f) ∙ at) in
-    let same : f ≡ c = ap (λ o. backs f o) (sym (sides_none f) ∙ at) in
-    first_side f implies a b (ap sides_of same ∙ split) 0 ∙ ap (option_map (with_side a)) (sides_none b) ∙ ap (λ xs. Some (xs ++ a ∷ [], b)) none
-  where
-    fronts : Option (List Formula × Formula) → List Formula
-    fronts None = []
-    fronts (Some s) = s.0
-
-    backs : Formula → Option (List Formula × Formula) → Formula
-    backs d None = d
-    backs d (Some s) = s.1
-sides_more (suc count) f hs c implies a b at split =
-    let s = splits count f hs c at in
-    let rest = sides_more count s.b s.hs' c implies a b s.others split in
-    first_side f s.implies s.a s.b s.first (suc count) ∙ ap (option_map (with_side s.a)) rest ∙ ap (λ xs. Some (xs ++ a ∷ [], b)) (sym s.all)
+sides_more count f hs (Wand x y) implies a b at split =
+    let same = both_sides (false, x, y) (implies, a, b) cc in
+    sides_are_grown.wand count f x y hs at ∙ ap₂ (λ (u v : Formula). Some (hs ++ u ∷ [], v)) same.0 same.1
+sides_more count f hs (Imp x y) implies a b at split =
+    let same = both_sides (true, x, y) (implies, a, b) cc in
+    sides_are_grown.imp count f x y hs at ∙ ap₂ (λ (u v : Formula). Some (hs ++ u ∷ [], v)) same.0 same.1
+sides_more count f hs c implies a b at split = absurd cc
 
 module _ (goal : Goal) (name : List ℕ) where
   pub no_sides : sides_of goal.concl ≡ None → step_rows goal (intro name) (Some I1)

@@ -30,7 +30,7 @@ pub enum Row {
     Q7,
     /// A directive, and no goal is left.
     Q9,
-    /// More than 64 variables.
+    /// More than 64 variables, or parameters.
     X1,
     /// More than 64 hypotheses and facts.
     X2,

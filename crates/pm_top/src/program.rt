@@ -73,12 +73,13 @@ fn run_command<S: Source, K: Sink>(alloc: Global, source: &mut S, sink: &mut K) 
 }
 
 /// Does all that the program does. `words` are the words of the command line after the program's name; `source` is read
-/// and `sink` written. The answer is the status that the program ends with, and what was written then is the whole text of
-/// that status: for `check` and `Done` the lines of the derivation's predicates and statements and of their number, for
-/// `run` and `Done` a derivation of exactly the script's lemmas over exactly its predicates. `Done` says that the input was
-/// read to its end and that each of its statements is true: for `check` those of the derivation, whoever wrote it, for
-/// `run` the script's lemmas. Where the words name no command nothing is read. After `WriteFault` and `Memory` a front of a
-/// text that answers the words and the input was written, or nothing, and after `ReadFault` nothing.
+/// and `sink` written. The answer is the status that the program ends with. Of devices that tell their bytes more is known:
+/// what was written then is the whole text of that status, for `check` and `Done` the lines of the derivation's predicates
+/// and statements and of their number, for `run` and `Done` a derivation of exactly the script's lemmas over exactly its
+/// predicates; and `Done` says that the input was read to its end and that each of its statements is true, for `check` those
+/// of the derivation, whoever wrote it, for `run` the script's lemmas. Where the words name no command nothing is read.
+/// After `WriteFault` and `Memory` a front of a text that answers the words and the input was written, or nothing, and after
+/// `ReadFault` nothing.
 pub fn top<S: Source, K: Sink>(
     alloc: Global,
     words: &Vec<String>,
