@@ -3,7 +3,8 @@
 
 Run it at the top of the repository, after the program was built (./mosel does that), or name a program:
     python3 bench/check.py [PROGRAM]
-It writes its inputs to bench/out, which isn't kept, and prints a line for each, with the last line of the answer.
+It writes its inputs to bench/out, which isn't kept, and prints a line for each, with the last line of the answer. The last
+input has many statements of one large formula; of it is printed also what it takes beyond the process and what is printed.
 """
 
 import itertools
@@ -67,6 +68,17 @@ def rules():
             yield b" ".join([numbers[0], rule, variables, *numbers[1:], *rest[cites:]])
 
 
+def copies():
+    """A line whose right side has 4,095 signs, by doubling, and a thousand statements of it."""
+    formula = b"pure T"
+    yield b"1 refl 0 pure T pure T\n"
+    for n in range(2, 13):
+        formula = b"and %s %s" % (formula, formula)
+        yield b"%d and-i 0 %d %d pure T %s\n" % (n, n - 1, n - 1, formula)
+    for n in range(1000):
+        yield b"qed q%d 12\n" % n
+
+
 def generate(kind, size, path):
     """Writes the text line by line: a process that is started counts what its parent held as its own peak."""
     left = size - len(HEADER)
@@ -84,13 +96,36 @@ def measure(program, path):
     with open(path, "rb") as source:
         start = time.monotonic()
         process = subprocess.Popen([program, "check"], stdin=source, stdout=subprocess.PIPE)
-        end = b""
+        end, written = b"", 0
         while piece := process.stdout.read(1 << 16):
             end = (end + piece)[-200:]
+            written += len(piece)
         _, status, usage = os.wait4(process.pid, 0)
         seconds = time.monotonic() - start
     answer = end.decode(errors="replace").strip().rsplit("\n", 1)[-1]
-    return answer, os.waitstatus_to_exitcode(status), seconds, usage.ru_maxrss * 1024
+    return answer, os.waitstatus_to_exitcode(status), seconds, usage.ru_maxrss * 1024, written
+
+
+def bare(program):
+    """The peak of a process that waits for its first byte. (What its end tells counts the memory of its parent, this script,
+    which is more than it has itself.)"""
+    with subprocess.Popen([program, "check"], stdin=subprocess.PIPE, stdout=subprocess.DEVNULL) as process:
+        time.sleep(0.5)
+        with open(f"/proc/{process.pid}/status") as status:
+            peak = next(line for line in status if line.startswith("VmHWM:"))
+    return int(peak.split()[1]) * 1024
+
+
+def report(program, kind, size, path):
+    length = generate(kind, size, path)
+    answer, status, seconds, peak, written = measure(program, path)
+    mb = length / 1e6
+    print(
+        f"{kind.__name__:<12} {mb:>6.1f} {seconds:>8.3f} {mb / seconds:>7.1f} {peak / 1e6:>8.1f}"
+        f" {peak / length:>6.1f}  {answer} ({status})",
+        flush=True,
+    )
+    return peak, written
 
 
 def main(program):
@@ -100,14 +135,13 @@ def main(program):
     print(f"{'input':<12} {'MB':>6} {'seconds':>8} {'MB/s':>7} {'peak MB':>8} {'times':>6}  answer")
     for kind in (rules, swaps, chains, shortest, statements):
         for size in SIZES:
-            path = os.path.join(OUT, f"{kind.__name__}-{size}")
-            length = generate(kind, size, path)
-            answer, status, seconds, peak = measure(program, path)
-            mb = length / 1e6
-            print(
-                f"{kind.__name__:<12} {mb:>6.1f} {seconds:>8.3f} {mb / seconds:>7.1f} {peak / 1e6:>8.1f}"
-                f" {peak / length:>6.1f}  {answer} ({status})"
-            )
+            report(program, kind, size, os.path.join(OUT, f"{kind.__name__}-{size}"))
+    peak, written = report(program, copies, SIZES[0], os.path.join(OUT, copies.__name__))
+    process = bare(program)
+    print(
+        f"of the last: {(peak - process - written) / 1e6:.1f} MB beyond the process ({process / 1e6:.1f} MB) and what it"
+        f" printed ({written / 1e6:.1f} MB); at most 5 are wanted"
+    )
 
 
 if __name__ == "__main__":
