@@ -1,7 +1,7 @@
 -- What is kept of lines, and one line more.
 use Rattle.std.proofs.Common.{◌≡◌, ℕ, zero, suc, ◌+◌, ◌-◌, ◌≤◌, Bool, true, false, ◌||◌, List, [], ◌∷◌, ◌++◌, length, refl, sym, ◌∙◌, ap, ap₂, subst, arith, Option, Some, None, Result, Ok, Err, not, append-nil, inl, inr}
 use Rattle.std.specs.Prelude.{slice_get, Vec}
-use Rattle.std.specs.List.{AllByRecursion, list_any}
+use Rattle.std.specs.List.{AllByRecursion}
 use Rattle.std.specs.Option.{option_to_list, option_map}
 use Rattle.std.specs.Str.{bytes_eq}
 use Rattle.std.proofs.lemmas.List.{append_assoc}
@@ -24,7 +24,8 @@ use Rattle.pm_check.specs.declared.fault.CheckFault.{CheckFault}
 use Rattle.pm_check.specs.declared.fault.CheckFault.TheVariants.{Refused, Memory}
 use Rattle.pm_check.specs.Lines.{steps, names, proof_line, cited, statement, statements_behind, is_used, StepFollows, QedFollows, StepFails, FirstUnmetByQed}
 use Rattle.pm_check.specs.Derivation.{next_number, IsNext}
-use Rattle.pm_check.specs.Kept.{NameSet, has_name, Adds, IsReady, Keeps, Refuses, step, qed, TakesLine}
+use Rattle.pm_name_sets.specs.Sets.{has, Adds}
+use Rattle.pm_check.specs.Kept.{IsReady, Keeps, Refuses, step, qed, TakesLine}
 use Rattle.pm_check.proofs.Growing.{each_none, each_more}
 use Rattle.pm_check.proofs.Ready.{is_fit}
 
@@ -40,7 +41,7 @@ names_more [] l = refl
 names_more (Step r f s e ∷ ls) l = names_more ls l
 names_more (Qed n c ∷ ls) l = ap (λ ns. n ∷ ns) (names_more ls l)
 
-statements_more : (es : List Entail) (ls : List Line) (l : Line) → statements_behind es (ls ++ l ∷ []) ≡ statements_behind es ls ++ statements_behind (es ++ steps ls) (l ∷ [])
+pub statements_more : (es : List Entail) (ls : List Line) (l : Line) → statements_behind es (ls ++ l ∷ []) ≡ statements_behind es ls ++ statements_behind (es ++ steps ls) (l ∷ [])
 statements_more es [] l = ap (λ xs. statements_behind xs (l ∷ [])) (sym (simp append-nil))
 statements_more es (Step r f s e ∷ ls) l = statements_more (es ++ e ∷ []) ls l ∙ ap (λ xs. statements_behind (es ++ e ∷ []) ls ++ statements_behind xs (l ∷ [])) (append_assoc es (e ∷ []) (steps ls))
 statements_more es (Qed n c ∷ ls) l =
@@ -61,12 +62,12 @@ used_more (x ∷ used) name other = ap (λ b. bytes_eq other x || b) (used_more 
 
 -- ---- nothing is kept yet
 
-pub keeps_none : (preds : Preds) (k : Kept) → k.preds ≡ preds → k.steps.items ≡ [] → k.names.keys ≡ [] → k.statements ≡ [] → Keeps preds [] k
+pub keeps_none : (preds : Preds) (k : Kept) → k.preds ≡ preds → k.steps.items ≡ [] → k.names ≡ [] → k.statements ≡ [] → Keeps preds [] k
 keeps_none preds k p s n t = record {
   preds_are = p;
   each = each_none (IsNext preds);
   steps_are = s;
-  names_are = λ name. ap (λ (ks : List (Vec ℕ Global)). list_any (λ x. bytes_eq name x.items) ks) n;
+  names_are = λ name. ap (λ (set : List (List ℕ)). has set name) n;
   statements_are = t;
 }
 
@@ -119,7 +120,7 @@ step_kept old new rule first second e p q u p_is q_is ok ps s n t = record {
         preds_are = ps ∙ k.preds_are;
         each = each_more (IsNext preds) ls l k.each (record { fits = fits; follows = follows });
         steps_are = s ∙ ap (λ es. es ++ e ∷ []) k.steps_are ∙ sym (steps_more ls l);
-        names_are = λ name. ap (λ (u : NameSet). has_name u name) n ∙ k.names_are name ∙ ap (λ ns. is_used ns name) (sym (names_more ls l ∙ simp append-nil));
+        names_are = λ name. ap (λ (u : List (List ℕ)). has u name) n ∙ k.names_are name ∙ ap (λ ns. is_used ns name) (sym (names_more ls l ∙ simp append-nil));
         statements_are = t ∙ k.statements_are ∙ sym (statements_more [] ls l ∙ simp append-nil);
       };
 }
@@ -142,7 +143,7 @@ no_memory old new l f e = record { behind = λ preds ls k fits. inl e }
 
 -- ---- a statement
 
-qed_refused : (old new : Kept) (name : List ℕ) (n : ℕ) (es : List Entail) (line : Entail) (condition : ℕ) (g : CheckFault) → es ≡ old.steps.items → proof_line es n ≡ Some line → g ≡ Refused n (record { rule = 68; condition = condition }) → ((used : List (List ℕ)) → ((other : List ℕ) → has_name old.names other ≡ is_used used other) → FirstUnmetByQed line used name condition) → Takes old (Qed name n) new (Err g)
+qed_refused : (old new : Kept) (name : List ℕ) (n : ℕ) (es : List Entail) (line : Entail) (condition : ℕ) (g : CheckFault) → es ≡ old.steps.items → proof_line es n ≡ Some line → g ≡ Refused n (record { rule = 68; condition = condition }) → ((used : List (List ℕ)) → ((other : List ℕ) → has old.names other ≡ is_used used other) → FirstUnmetByQed line used name condition) → Takes old (Qed name n) new (Err g)
 qed_refused old new name n es line condition g es_is there g_is fails = record {
   behind = λ preds ls k fits.
       let there' : proof_line (steps ls) n ≡ Some line = ap (λ xs. proof_line xs n) (sym (es_is ∙ k.steps_are)) ∙ there in
@@ -156,19 +157,19 @@ has_variables old new name n es line g es_is there g_is bad = qed_refused old ne
 pub lacks_truth : (old new : Kept) (name : List ℕ) (n : ℕ) (es : List Entail) (line : Entail) (g : CheckFault) → es ≡ old.steps.items → proof_line es n ≡ Some line → g ≡ Refused n (record { rule = 68; condition = 2 }) → line.vars ≡ 0 → ¬ (line.left ≡ Fact True) → Takes old (Qed name n) new (Err g)
 lacks_truth old new name n es line g es_is there g_is closed bad = qed_refused old new name n es line 2 g es_is there g_is (λ used are. inr (inl (refl, closed, bad)))
 
-pub name_taken : (old new : Kept) (name : List ℕ) (n : ℕ) (es : List Entail) (line : Entail) (g : CheckFault) → es ≡ old.steps.items → proof_line es n ≡ Some line → g ≡ Refused n (record { rule = 68; condition = 3 }) → line.vars ≡ 0 → line.left ≡ Fact True → false ≡ not (has_name old.names name) → Takes old (Qed name n) new (Err g)
-name_taken old new name n es line g es_is there g_is closed left taken = qed_refused old new name n es line 3 g es_is there g_is (λ used are. inr (inr (refl, closed, left, sym (are name) ∙ has (has_name old.names name) taken)))
+pub name_taken : (old new : Kept) (name : List ℕ) (n : ℕ) (es : List Entail) (line : Entail) (g : CheckFault) → es ≡ old.steps.items → proof_line es n ≡ Some line → g ≡ Refused n (record { rule = 68; condition = 3 }) → line.vars ≡ 0 → line.left ≡ Fact True → false ≡ not (has old.names name) → Takes old (Qed name n) new (Err g)
+name_taken old new name n es line g es_is there g_is closed left taken = qed_refused old new name n es line 3 g es_is there g_is (λ used are. inr (inr (refl, closed, left, sym (are name) ∙ was (has old.names name) taken)))
   where
-    has : (b : Bool) → false ≡ not b → b ≡ true
-    has true e = refl
-    has false e = absurd cc
+    was : (b : Bool) → false ≡ not b → b ≡ true
+    was true e = refl
+    was false e = absurd cc
 
-pub qed_kept : (old new : Kept) (name : List ℕ) (n : ℕ) (es : List Entail) (line : Entail) (made : Statement) (u : Unit {0}) → es ≡ old.steps.items → proof_line es n ≡ Some line → line.vars ≡ 0 → line.left ≡ Fact True → true ≡ not (has_name old.names name) → Adds old.names new.names name → new.preds ≡ old.preds → new.steps ≡ old.steps → new.statements ≡ old.statements ++ made ∷ [] → made ≡ statement name line → Takes old (Qed name n) new (Ok u)
+pub qed_kept : (old new : Kept) (name : List ℕ) (n : ℕ) (es : List Entail) (line : Entail) (made : Statement) (u : Unit {0}) → es ≡ old.steps.items → proof_line es n ≡ Some line → line.vars ≡ 0 → line.left ≡ Fact True → true ≡ not (has old.names name) → Adds old.names new.names name → new.preds ≡ old.preds → new.steps ≡ old.steps → new.statements ≡ old.statements ++ made ∷ [] → made ≡ statement name line → Takes old (Qed name n) new (Ok u)
 qed_kept old new name n es line made u es_is there closed left fresh adds p s t made_is = record {
   behind = λ preds ls k fits.
       let l : Line = Qed name n in
       let there' : proof_line (steps ls) n ≡ Some line = ap (λ xs. proof_line xs n) (sym (es_is ∙ k.steps_are)) ∙ there in
-      let follows : QedFollows (steps ls) (names ls) name n = record { line = line; there = there'; closed = closed; left = left; new = sym (k.names_are name) ∙ free (has_name old.names name) fresh } in
+      let follows : QedFollows (steps ls) (names ls) name n = record { line = line; there = there'; closed = closed; left = left; new = sym (k.names_are name) ∙ free (has old.names name) fresh } in
       let stated : statements_behind (steps ls) (l ∷ []) ≡ statement name line ∷ [] = ap (λ o. option_to_list (option_map (statement name) o) ++ []) there' in
       record {
         preds_are = p ∙ k.preds_are;

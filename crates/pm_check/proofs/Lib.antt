@@ -4,7 +4,6 @@ pub mod Tables
 pub mod Keeping
 pub mod Longer
 pub mod Lines
-pub mod NameSets
 pub mod Told
 pub mod OneCondition
 pub mod OneEnd

@@ -1,8 +1,7 @@
 -- Lines that were read from the front of a text, and what the text is found to be.
-use Rattle.std.proofs.Common.{◌≡◌, ◌≢◌, ◌⊎◌, ℕ, suc, ◌+◌, ◌<◌, ◌≤◌, List, [], ◌∷◌, ◌++◌, length, codes, refl, sym, ◌∙◌, ap, ap₂, subst, arith, Result, Ok, Err, append-nil, inl, inr}
+use Rattle.std.proofs.Common.{◌≡◌, ◌≢◌, ◌⊎◌, ℕ, suc, ◌+◌, ◌<◌, ◌≤◌, List, [], ◌∷◌, ◌++◌, length, codes, sym, ◌∙◌, ap, ap₂, subst, arith, Result, Ok, Err, append-nil, inl, inr}
 use Rattle.std.specs.Prelude.{if◌then◌else◌}
 use Rattle.std.specs.Str.{bytes_eq}
-use Rattle.pm_logic.specs.declared.formula.Pred.{Pred}
 use Rattle.pm_logic.specs.declared.formula.Preds.{Preds}
 use Rattle.pm_rules.specs.declared.rules.Entail.{Entail}
 use Rattle.pm_dtext.specs.declared.line.Line.{Line}
@@ -26,6 +25,7 @@ use Rattle.pm_check.specs.Offence.{placed, line_named, FirstOffence, line, step,
 use Rattle.pm_check.specs.Answers.{IsDerived}
 use Rattle.pm_check.specs.Kept.{answered, HasTable, IsReady, Keeps, Refuses, TakesLine}
 use Rattle.pm_check.specs.Kept.{step as refused_step, qed as refused_qed}
+use Rattle.pm_dtext.proofs.Tables.{all_told}
 use Rattle.pm_check.proofs.Tables.{fit_bodies}
 use Rattle.pm_check.proofs.Longer.{line_longer}
 use Rattle.pm_check.proofs.Keeping.{line_fit, ready_more, steps_more}
@@ -80,14 +80,10 @@ line_smaller kept n rest l after law e =
     let same = ap length (law.found (arities_of kept.preds.list) (n + 1) rest l after e).spelled in
     omega arith
 
-arities_length : (qs : List Pred) → length (arities_of qs) ≡ length qs
-arities_length [] = refl
-arities_length (q ∷ qs) = ap suc (arities_length qs)
-
 pub table_small : (bytes rest : List ℕ) (preds : Preds) (kept : Kept) → Progress bytes preds kept rest → length kept.preds.list ≤ 1000000
 table_small bytes rest preds kept p =
     let few = p.begins.table.fit.0 in
-    let same = arities_length preds.list in
+    let same = all_told preds.list in
     let kept_same = ap (λ (ps : Preds). length ps.list) p.keeps.preds_are in
     omega arith
 

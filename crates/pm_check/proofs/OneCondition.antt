@@ -1,5 +1,5 @@
 -- A line that doesn't follow has one first condition that is unmet.
-use Rattle.std.proofs.Common.{◌≡◌, ◌⊎◌, ℕ, suc, List, [], ◌∷◌, sym, ◌∙◌, ap, ap₂, subst, Option, Some, Result, Ok, Err, inl, inr}
+use Rattle.std.proofs.Common.{◌≡◌, ◌⊎◌, ℕ, suc, List, [], ◌∷◌, sym, ◌∙◌, ap, ap₂, subst, Option, Result, Ok, Err, inl, inr}
 use Rattle.std.specs.Prelude.{Bool, true, false}
 use Rattle.pm_logic.specs.declared.formula.Formula.TheVariants.{Pure as Fact}
 use Rattle.pm_logic.specs.declared.formula.Pure.TheVariants.{True}
@@ -10,6 +10,7 @@ use Rattle.pm_rules.specs.declared.rules.Unmet.{Unmet}
 use Rattle.pm_rules.specs.Rules.{premises, RuleOk, FirstUnmet, HasPremises, HasVariables, HasArguments, HasShape, HasBracket}
 use Rattle.pm_dtext.specs.declared.line.Line.{Line}
 use Rattle.pm_dtext.specs.declared.fault.Fault.{Fault}
+use Rattle.pm_dtext.proofs.Steps.{same_some}
 use Rattle.pm_check.specs.declared.fault.CheckFault.{CheckFault}
 use Rattle.pm_check.specs.declared.fault.CheckFault.TheVariants.{Refused}
 use Rattle.pm_check.specs.Lines.{steps, names, cited, is_used, LineFollows, StepFails, QedFails, FirstUnmetByQed}
@@ -29,9 +30,6 @@ err_is f g e = cc
 
 pub ok_or_err : (p : Line × List ℕ) (f : Fault) → (let r : ReadLine = Ok p in r) ≡ Err f → ⊥
 ok_or_err p f e = cc
-
-pub some_is : {A : Type 0} (x y : A) → Some x ≡ Some y → x ≡ y
-some_is x y e = cc
 
 -- ---- one condition is the first that is unmet
 
@@ -103,9 +101,6 @@ qed_unmet_or_ok e used name n f closed left fresh = elim f [
 unmet_is : (u w : Unmet) → u.rule ≡ w.rule → u.condition ≡ w.condition → u ≡ w
 unmet_is u w a b = ap₂ (λ r c. let x : Unmet = record { rule = r; condition = c } in x) a b
 
-refused_line : (n : ℕ) (u w : Unmet) → u ≡ w → Refused n u ≡ Refused n w
-refused_line n u w e = ap (Refused n) e
-
 step_once : (preds : Preds) (es : List Entail) (rule : Rule) (first second : Option ℕ) (e : Entail) (u w : Unmet) → StepFails preds es rule first second e u → StepFails preds es rule first second e w → u ≡ w
 step_once preds es rule first second e u w f g =
     let ps = premises (cited es first) (cited es second) in
@@ -113,7 +108,7 @@ step_once preds es rule first second e u w f g =
 
 qed_once : (es : List Entail) (used : List (List ℕ)) (name : List ℕ) (n : ℕ) (u w : Unmet) → QedFails es used name n u → QedFails es used name n w → u ≡ w
 qed_once es used name n u w f g =
-    let same : g.line ≡ f.line = some_is g.line f.line (sym g.there ∙ f.there) in
+    let same : g.line ≡ f.line = same_some g.line f.line (sym g.there ∙ f.there) in
     let g_fails : FirstUnmetByQed f.line used name w.condition = subst (λ (e : Entail). FirstUnmetByQed e used name w.condition) same g.fails in
     unmet_is u w (f.rule_is ∙ sym g.rule_is) (first_once 1 (qed_conditions f.line used name) u.condition w.condition (qed_first f.line used name u.condition f.fails) (qed_first f.line used name w.condition g_fails))
 
@@ -124,5 +119,5 @@ refuses_once preds before _ _ _ (refused_qed name n u a) (refused_qed name' n' w
 pub refuses_not : (preds : Preds) (before : List Line) (l : Line) (f : CheckFault) → Refuses preds before l f → LineFollows preds (steps before) (names before) l → ⊥
 refuses_not preds before _ _ (refused_step rule first second e u a) ok = unmet_or_ok preds rule (premises (cited (steps before) first) (cited (steps before) second)) e u.condition a.fails ok
 refuses_not preds before _ _ (refused_qed name n u a) ok =
-    let same : ok.line ≡ a.line = some_is ok.line a.line (sym ok.there ∙ a.there) in
+    let same : ok.line ≡ a.line = same_some ok.line a.line (sym ok.there ∙ a.there) in
     qed_unmet_or_ok a.line (names before) name u.condition a.fails (ap (λ (e : Entail). e.vars) (sym same) ∙ ok.closed) (ap (λ (e : Entail). e.left) (sym same) ∙ ok.left) ok.new

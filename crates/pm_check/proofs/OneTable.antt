@@ -1,5 +1,5 @@
 -- A table at the front of a text has one verdict.
-use Rattle.std.proofs.Common.{◌≡◌, ℕ, suc, ◌+◌, ◌<◌, ◌^◌, List, [], ◌∷◌, ◌++◌, length, refl, sym, ◌∙◌, ap, ap₂, subst, arith, Result, Ok, Err, append-nil}
+use Rattle.std.proofs.Common.{◌≡◌, ℕ, ◌+◌, ◌<◌, ◌^◌, List, [], ◌∷◌, ◌++◌, length, refl, sym, ◌∙◌, ap, ap₂, subst, arith, Result, Ok, Err, append-nil}
 use Rattle.pm_logic.specs.declared.formula.Pred.{Pred}
 use Rattle.pm_logic.specs.declared.formula.Preds.{Preds}
 use Rattle.pm_logic.specs.declared.formula.Formula.{Formula}
@@ -22,7 +22,8 @@ use Rattle.pm_check.specs.Offence.{placed}
 use Rattle.pm_check.proofs.Growing.{each_now, each_next}
 use Rattle.std.proofs.lemmas.List.{append_assoc}
 use Rattle.pm_check.proofs.Longer.{pred_longer}
-use Rattle.pm_check.proofs.OneCondition.{some_is}
+use Rattle.pm_dtext.proofs.Steps.{same_some}
+use Rattle.pm_check.proofs.Tables.{names_length}
 use Rattle.pm_check.proofs.OneEnd.{LineLaws, Verdict, Stops, lines_once}
 
 -- ---- the table
@@ -53,15 +54,11 @@ pred_err_is f g e = cc
 pred_ok_or_err : (p : Pred × List ℕ) (f : Fault) → (let r : ReadPred = Ok p in r) ≡ Err f → ⊥
 pred_ok_or_err p f e = cc
 
-names_length : (qs : List Pred) → length (names_of qs) ≡ length qs
-names_length [] = refl
-names_length (x ∷ qs) = ap suc (names_length qs)
-
 own_arity : (table : List ℕ) (qs : List Pred) (q : Pred) → PredFits table (names_of qs) q → HasArity table (length qs) q.arity
 own_arity table qs q fits = subst (λ (k : ℕ). HasArity table k q.arity) (names_length qs) fits.arity
 
 arity_once : (table : List ℕ) (k a b : ℕ) → HasArity table k a → HasArity table k b → a ≡ b
-arity_once table k a b h i = some_is a b (sym h ∙ i)
+arity_once table k a b h i = same_some a b (sym h ∙ i)
 
 past : (qs : List Pred) (a : ℕ) → HasArity (arities_of qs) (length qs) a → ⊥
 past [] a h = cc

@@ -21,12 +21,13 @@ use Rattle.pm_check.specs.declared.fault.CheckFault.TheVariants.{Unguarded, Memo
 use Rattle.pm_check.specs.Table.{preds_text, table_text, BeginsTable}
 use Rattle.pm_check.specs.Offence.{placed, FirstOffence, header, arities, predicate, unguarded}
 use Rattle.pm_check.specs.Kept.{answered, HasTable}
+use Rattle.pm_dtext.proofs.Steps.{same_some}
 use Rattle.pm_check.proofs.Growing.{each_none, each_more}
 use Rattle.pm_check.proofs.Ready.{is_fit}
 
 -- ---- bodies
 
-body_last : (qs : List Pred) (q : Pred) → body_of (qs ++ q ∷ []) (length qs) ≡ q.body
+pub body_last : (qs : List Pred) (q : Pred) → body_of (qs ++ q ∷ []) (length qs) ≡ q.body
 body_last [] q = refl
 body_last (x ∷ qs) q = body_last qs q
 
@@ -67,7 +68,7 @@ preds_text_more (x ∷ qs) q rest = ap (pred_text x) (preds_text_more qs q rest)
 pub table_text_more : (table : List ℕ) (qs : List Pred) (q : Pred) (rest : List ℕ) → table_text table (qs ++ q ∷ []) rest ≡ table_text table qs (pred_text q rest)
 table_text_more table qs q rest = ap (λ t. header_text (arities_text table t)) (preds_text_more qs q rest)
 
-arities_more : (qs : List Pred) (q : Pred) → arities_of (qs ++ q ∷ []) ≡ arities_of qs ++ q.arity ∷ []
+pub arities_more : (qs : List Pred) (q : Pred) → arities_of (qs ++ q ∷ []) ≡ arities_of qs ++ q.arity ∷ []
 arities_more [] q = refl
 arities_more (x ∷ qs) q = ap (λ ns. x.arity ∷ ns) (arities_more qs q)
 
@@ -108,7 +109,7 @@ take_whole [] (suc i) le = refl
 take_whole (x ∷ xs) zero le = absurd (omega arith)
 take_whole (x ∷ xs) (suc i) le = ap (λ ys. x ∷ ys) (take_whole xs i (omega arith))
 
-names_length : (qs : List Pred) → length (names_of qs) ≡ length qs
+pub names_length : (qs : List Pred) → length (names_of qs) ≡ length qs
 names_length [] = refl
 names_length (x ∷ qs) = ap suc (names_length qs)
 
@@ -126,14 +127,11 @@ has_arity table qs i a e lt a_is = subst (λ (k : ℕ). HasArity table k a) (sym
 named_arity : (table : List ℕ) (qs : List Pred) (a : ℕ) → HasArity table (length qs) a → HasArity table (length (names_of qs)) a
 named_arity table qs a h = subst (λ (k : ℕ). HasArity table k a) (sym (names_length qs)) h
 
-some_is : {A : Type 0} (x y : A) → Some x ≡ Some y → x ≡ y
-some_is x y e = cc
-
 pub table_grown : (bytes table rest : List ℕ) (i a : ℕ) (qs : List Pred) (q : Pred) (after : List ℕ) (new : List Pred) → PredsAreRead → TableProgress bytes table i qs rest → i < length table → a ≡ slice_index_or table i 0 → pred_at table (names_of qs) a rest ≡ Ok (q, after) → (new ≡ qs ++ q ∷ []) × CallsBelow (length qs) q.body → TableProgress bytes table (i + 1) new after
 table_grown bytes table rest i a qs q after new law p lt a_is e added =
     let named = named_arity table qs a (has_arity table qs i a p.count lt a_is) in
     let found = law.found table (names_of qs) a rest q after named e in
-    let same : a ≡ q.arity = some_is a q.arity (sym named ∙ found.fits.arity) in
+    let same : a ≡ q.arity = same_some a q.arity (sym named ∙ found.fits.arity) in
     record {
       text = p.text ∙ ap (table_text table qs) found.spelled ∙ sym (table_text_more table qs q after) ∙ ap (λ ps. table_text table ps after) (sym added.0);
       begins = subst (λ (ps : List Pred). BeginsTable table ps) (sym added.0) (table_more table qs q p.begins found.fits added.1);

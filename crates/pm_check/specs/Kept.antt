@@ -1,14 +1,10 @@
 -- What the checker keeps of the lines that it has read.
-use Rattle.std.specs.Prelude.{◌≡◌, ℕ, ◌||◌, Bool, List, [], ◌∷◌, ◌++◌, length, Option, Result, Vec}
+use Rattle.std.specs.Prelude.{◌≡◌, ℕ, List, [], ◌∷◌, ◌++◌, length, Option, Result}
 use Rattle.std.specs.List.{AllByRecursion}
-use Rattle.std.specs.HashSet.{HashSet, contains_by}
-use Rattle.std.specs.Str.{bytes_eq}
-use Rattle.std.specs.declared.alloc.Global.{Global}
-use Rattle.std.specs.declared.hash.FoldHasher.{FoldHasher}
-use Rattle.std.specs.declared.hash.BuildHasherDefault.{BuildHasherDefault}
 use Rattle.pm_logic.specs.declared.formula.Pred.{Pred}
 use Rattle.pm_logic.specs.declared.formula.Preds.{Preds}
 use Rattle.pm_logic.specs.Guard.{CallsBelow}
+use Rattle.pm_name_sets.specs.Sets.{has}
 use Rattle.pm_rules.specs.declared.rules.Rule.{Rule}
 use Rattle.pm_rules.specs.declared.rules.Entail.{Entail}
 use Rattle.pm_rules.specs.declared.rules.Unmet.{Unmet}
@@ -28,18 +24,6 @@ use Rattle.pm_check.specs.Lines.{steps, names, is_used, statements_behind, StepF
 use Rattle.pm_check.specs.Derivation.{next_number, IsNext}
 use Rattle.pm_check.specs.Answers.{Gives}
 use Rattle.pm_check.specs.Offence.{placed}
-
--- ---- sets of names
-
-abbrev pub NameSet : Type 0
-NameSet = HashSet (Vec ℕ Global) (BuildHasherDefault FoldHasher)
-
-abbrev pub has_name : NameSet → List ℕ → Bool
-has_name used name = contains_by (λ n. bytes_eq name n.items) used
-
--- one name more
-pub record Adds (old new : NameSet) (name : List ℕ) : Type 0 where
-  pub has : (other : List ℕ) → has_name new other ≡ (has_name old other || bytes_eq other name)
 
 -- ---- faults of reading
 
@@ -71,7 +55,7 @@ pub record Keeps (preds : Preds) (ls : List Line) (k : Kept) : Type 0 where
   pub preds_are : k.preds ≡ preds
   pub each : EachBehind (IsNext preds) ls
   pub steps_are : k.steps.items ≡ steps ls
-  pub names_are : (name : List ℕ) → has_name k.names name ≡ is_used (names ls) name
+  pub names_are : (name : List ℕ) → has k.names name ≡ is_used (names ls) name
   pub statements_are : k.statements ≡ statements_behind [] ls
 
 -- the line behind these lines doesn't follow

@@ -1,20 +1,18 @@
 //! What is kept of the lines that were read, and one line more.
 
-ghost use Rattle.std.specs.Prelude.{◌≡◌, ◌↔◌, ◌≤◌, ◌<◌, suc, IsTrue, IsTrue, not, IfOk, length, Some};
-ghost use Rattle.std.specs.Bool.{OnTrue};
+ghost use Rattle.std.specs.Prelude.{◌≡◌, ◌↔◌, ◌≤◌, ◌<◌, suc, IsTrue, length, Some};
 ghost use Rattle.std.specs.Option.{option_copied};
 ghost use Rattle.pm_logic.specs.declared.formula.Formula.TheVariants.{Pure as Fact};
 ghost use Rattle.pm_logic.specs.declared.formula.Pure.TheVariants.{True};
-ghost use Rattle.pm_check.specs.Kept.{Adds, has_name};
 ghost use Rattle.pm_check.specs.Lines.{cited, proof_line};
 
 use crate::checked::{Checked, Statement};
 use crate::fault::CheckFault;
 use pm_dtext::Line;
-use pm_logic::{Formula, List, Memory, Name, Preds, Pure, copy};
+use pm_logic::{Formula, List, Name, Preds, Pure, copy};
+use pm_name_sets::NameSet;
 use pm_rules::{Entail, Rule, Unmet, rule_ok};
 use std::alloc::Global;
-use std::collections::HashSet;
 
 /// The proof line of this number, counted from 1.
 fn proof_line(steps: &[Entail], number: u64) -> Option<&Entail>
@@ -42,16 +40,6 @@ fn is_truth(f: &Formula) -> bool
     matches!(f, Formula::Pure(Pure::True))
 }
 
-/// Adds a name to a set, and answers whether it is new.
-#[tactic(auto, using(crate::proofs::NameSets::added))]
-fn insert_name(alloc: Global, names: &mut HashSet<Vec<u8>>, name: &Name) -> Result<bool, Memory>
-    ensures new { IfOk result (λ b. b ≡ not (has_name names.old name.now)) }
-    ensures added { IfOk result (λ b. OnTrue b (Adds names.old names.new name.now)) }
-{
-    let key = Vec::from_slice(alloc, name.bytes())?;
-    Ok(names.insert(key)?)
-}
-
 /// The refusal of a `qed` that cites this line.
 fn qed_refused(line: u64, condition: u8) -> CheckFault
     ensures { result ≡ CheckFault.Refused line (record { rule = 68; condition = condition }) }
@@ -72,7 +60,7 @@ pub struct Kept {
     /// The proof lines.
     pub steps: Vec<Entail>,
     /// The names of the statements.
-    pub names: HashSet<Vec<u8>>,
+    pub names: NameSet,
     pub statements: List<Statement>,
 }
 
@@ -91,7 +79,7 @@ impl Kept {
         Kept {
             preds,
             steps: Vec::new(alloc),
-            names: HashSet::new(alloc),
+            names: NameSet::new(alloc),
             statements: List::new(alloc),
         }
     }
@@ -145,7 +133,7 @@ impl Kept {
         if !is_truth(&line.left) {
             return Err(qed_refused(cited, 2));
         }
-        if !insert_name(alloc, &mut self.names, &name)? {
+        if !self.names.insert(alloc, name.bytes())? {
             return Err(qed_refused(cited, 3));
         }
         let formula = copy(alloc, &line.right)?;

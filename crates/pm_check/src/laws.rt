@@ -3,7 +3,8 @@
 ghost use Rattle.pm_check.specs.Laws.{VerdictsAreOne};
 ghost use Rattle.pm_check.specs.Truth.{DerivationsAreTrue, NothingAbsurd, ProofLinesAreTrue};
 
-/// The bytes determine the table and the statements of a derivation, and the first offence, and never have both.
+/// Fewer than 2^64 bytes determine the table and the statements of a derivation, and the first offence, and never have
+/// both.
 #[tactic(auto, using(crate::proofs::Verdicts::verdicts_are_one))]
 pub fn verdicts_are_one()
     ensures { VerdictsAreOne }

@@ -8,8 +8,6 @@ mod kept;
 mod laws;
 mod reading;
 mod table;
-#[cfg(test)]
-mod tests;
 
 pub use checked::{Checked, Statement};
 pub use fault::CheckFault;

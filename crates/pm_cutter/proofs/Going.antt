@@ -7,7 +7,7 @@ use Rattle.std.proofs.lemmas.Bool.Decides.{nat_tests}
 use Rattle.pm_cutter.specs.Cutting.{Mode, gap, Move, move_over, sentences_from, mode_behind, Part, part, parts, start_of}
 use Rattle.pm_cutter.specs.declared.mode.Mode.{Mode as KeptMode}
 use Rattle.pm_cutter.specs.Machine.{region_of, mode_of, Kept, held_by, held_part, parts_from, Takes, waits, from_or, from_of, Holds, GoesOn, started}
-use Rattle.pm_cutter.proofs.Steps.{Does, leaves, stays, stops, braces, does, two, settled, none_waiting, start_of-mode_of, first_true}
+use Rattle.pm_cutter.proofs.Steps.{Does, leaves, stays, stops, braces, does, two, settled, none_waiting, start_of-mode_of}
 
 -- ---- what is held
 
@@ -187,12 +187,6 @@ pub goes_over_first : (ps : List Part) (k : Kept) (bs : List ℕ) (qs : List Par
 goes_over_first ps k [] qs l some e t = absurd (omega arith)
 goes_over_first ps k (b ∷ []) qs l some e t = goes_over_one ps k b [] qs l e t
 goes_over_first ps k (b ∷ c ∷ bs) qs l some e t = goes_over_two ps k b c bs bs qs l t
-
--- the only byte
-pub only_byte : (bs : List ℕ) (m : Mode) → (length bs == 1 && waits m (slice_index bs 0)) ≡ true → (bs ≡ slice_index bs 0 ∷ []) × (waits m (slice_index bs 0) ≡ true)
-only_byte [] m e = absurd cc
-only_byte (b ∷ []) m e = (refl, e)
-only_byte (b ∷ c ∷ bs) m e = absurd (let t : (length (b ∷ c ∷ bs) == 1) ≡ true = first_true (length (b ∷ c ∷ bs) == 1) (waits m b) e in grind (arith, nat_tests, t))
 
 pub first_byte : (bs : List ℕ) → 0 < length bs → bs ≡ slice_index bs 0 ∷ drop 1 bs
 first_byte [] some = absurd (omega arith)

@@ -4,4 +4,3 @@ pub mod Ending
 pub mod Steady
 pub mod Split
 pub mod SplitFound
-pub mod Examples

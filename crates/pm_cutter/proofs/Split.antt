@@ -9,7 +9,7 @@ use Rattle.pm_tokens.specs.Pieces.{is_blank, begins_with}
 use Rattle.pm_cutter.specs.Cutting.{Mode, gap, inside, comment, passing, uncommented, Ends, Move, is_stop, is_brace, in_sentence, move_over, sentences_from, mode_behind, Part, part, parts, cut, finished, start_of, rest_by, rest_of}
 use Rattle.pm_cutter.specs.Machine.{held_by, held_part, parts_from}
 use Rattle.pm_cutter.specs.Splitting.{Closes, closed, nested, inner, StaysOpen, comment_cut, open_within, closed_within, inner_open, is_plain, IsBody, body_end, quote, body_comment, dot, plain, blank_or_end, IsOpenBody, body_cut, quote_open, comment_open, comment_before, dot_open, plain_open, Starts, AreSentences, script_end, comment_left, sentence_left, blank, script_comment, open_brace, close_brace, sentence}
-use Rattle.pm_cutter.proofs.Steps.{two}
+use Rattle.pm_cutter.proofs.Steps.{not_byte, two}
 use Rattle.pm_cutter.proofs.Going.{parts_from_start}
 
 -- ---- what the machine finds from a mode on, and the mode behind that
@@ -44,14 +44,8 @@ over_two m n at to b c bs e place = silent m (passing n) at b (c ∷ bs) e ∙ (
 
 -- ---- bytes
 
-not_byte : (b n : ℕ) → (b == n) ≡ false → eqb n b ≡ false
-not_byte b n e = grind (arith, nat_tests, e)
-
 pub is_byte : (b n : ℕ) → eqb n b ≡ true → b ≡ n
 is_byte b n e = grind (arith, nat_tests, e)
-
-pub is_number : (b n : ℕ) → (b == n) ≡ true → b ≡ n
-is_number b n e = grind (arith, nat_tests, e)
 
 -- Whether two bytes begin at a byte before the rest of a comment, or of a sentence, shows without the bytes behind.
 pub front : (xs : List ℕ) → Closes xs → (b : ℕ) (ys : List ℕ)

@@ -2,11 +2,13 @@
 use Rattle.std.proofs.Common.{◌≡◌, ℕ, suc, ◌+◌, Bool, true, false, cond, ◌&&◌, ◌||◌, not, ◌==◌, List, [], ◌∷◌, ◌++◌, length, refl, sym, ap, subst, ◌∙◌, arith, append_assoc}
 use Rattle.std.specs.Prelude.{codes, eqb}
 use Rattle.std.proofs.lemmas.Bool.Decides.{nat_tests}
+use Rattle.std.proofs.lemmas.Bool.{and_parts}
 use Rattle.pm_tokens.specs.Symbols.{begins}
 use Rattle.pm_tokens.specs.Pieces.{is_blank, begins_with}
 use Rattle.pm_cutter.specs.Cutting.{Mode, gap, inside, comment, passing, uncommented, Move, is_stop, is_brace, in_sentence, move_over, Part, cut}
 use Rattle.pm_cutter.specs.Splitting.{Closes, closed, nested, inner, StaysOpen, comment_cut, open_within, closed_within, inner_open, is_plain, IsBody, body_end, quote, body_comment, dot, plain, blank_or_end, IsOpenBody, body_cut, quote_open, comment_open, comment_before, dot_open, plain_open, Starts, AreSentences, script_end, comment_left, sentence_left, blank, script_comment, open_brace, close_brace, sentence}
-use Rattle.pm_cutter.proofs.Split.{is_byte, is_number, front, no_open, splitting_is_cut}
+use Rattle.pm_cutter.proofs.Steps.{is_number}
+use Rattle.pm_cutter.proofs.Split.{is_byte, front, no_open, splitting_is_cut}
 
 -- sentences from any offset on, and the rest
 abbrev Split : List ℕ → ℕ → Type 0
@@ -24,17 +26,13 @@ data Goes : Mode → List ℕ → Type 0 where
 
 -- ---- tests
 
-both_true : (s t : Bool) → (s && t) ≡ true → (s ≡ true) × (t ≡ true)
-both_true true t e = (refl, e)
-both_true false t e = absurd cc
-
 at_one : (P : List ℕ → Type 0) (b x : ℕ) (zs : List ℕ) → begins (x ∷ []) (b ∷ zs) ≡ true → P (x ∷ zs) → P (b ∷ zs)
-at_one P b x zs e h = subst (λ (y : ℕ). P (y ∷ zs)) (sym (is_byte b x (both_true (eqb x b) true e).0)) h
+at_one P b x zs e h = subst (λ (y : ℕ). P (y ∷ zs)) (sym (is_byte b x (and_parts (eqb x b) true e).0)) h
 
 at_two : (P : List ℕ → Type 0) (b c x y : ℕ) (zs : List ℕ) → begins (x ∷ y ∷ []) (b ∷ c ∷ zs) ≡ true → P (x ∷ y ∷ zs) → P (b ∷ c ∷ zs)
 at_two P b c x y zs e h =
-    let t = both_true (eqb x b) (eqb y c && true) e in
-    let u = both_true (eqb y c) true t.1 in
+    let t = and_parts (eqb x b) (eqb y c && true) e in
+    let u = and_parts (eqb y c) true t.1 in
     subst (λ (z : ℕ). P (z ∷ c ∷ zs)) (sym (is_byte b x t.0)) (subst (λ (z : ℕ). P (x ∷ z ∷ zs)) (sym (is_byte c y u.0)) h)
 
 test : (P : Move → Type 0) (t : Bool) (x y : Move) → (t ≡ true → P x) → (t ≡ false → P y) → P (cond t x y)
@@ -45,7 +43,7 @@ test P false x y f g = g refl
 
 -- two bytes aren't one
 no_two : (b x y : ℕ) → begins (x ∷ y ∷ []) (b ∷ []) ≡ true → ⊥
-no_two b x y e = let t = both_true (eqb x b) false e in let wrong : false ≡ true = t.1 in cc
+no_two b x y e = let t = and_parts (eqb x b) false e in let wrong : false ≡ true = t.1 in cc
 
 opens_in_gap : (b : ℕ) (bs : List ℕ) → Goes (passing (comment 0 gap)) bs → begins (codes "(*") (b ∷ bs) ≡ true → Goes gap (b ∷ bs)
 opens_in_gap b bs (in_passing {b = c} (in_comment {xs = us} {ys = vs} cl (in_gap h))) e =
@@ -93,8 +91,8 @@ quotes start quoted b bs (in_open_body o) e = at_one (λ zs. Goes (inside start 
 
 stop_is : (b : ℕ) (bs : List ℕ) → is_stop true (b ∷ bs) ≡ true → (b ≡ 46) × (blank_or_end bs ≡ true)
 unfolding is_stop
-stop_is b [] e = (is_number b 46 (both_true (b == 46) true e).0, refl)
-stop_is b (c ∷ bs) e = let t = both_true (b == 46) (is_blank c) e in (is_number b 46 t.0, t.1)
+stop_is b [] e = (is_number b 46 (and_parts (b == 46) true e).0, refl)
+stop_is b (c ∷ bs) e = let t = and_parts (b == 46) (is_blank c) e in (is_number b 46 t.0, t.1)
 
 stops_body : (start : ℕ) (quoted : Bool) (b : ℕ) (bs : List ℕ) → Goes gap bs → (not quoted && is_stop true (b ∷ bs)) ≡ true → Goes (inside start quoted) (b ∷ bs)
 stops_body start true b bs g e = absurd cc

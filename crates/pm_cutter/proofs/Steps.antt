@@ -2,6 +2,7 @@
 use Rattle.std.proofs.Common.{◌≡◌, ℕ, zero, suc, ◌+◌, ◌-◌, ◌<◌, add-one, Bool, true, false, cond, ◌&&◌, ◌||◌, not, ◌==◌, List, [], ◌∷◌, Option, Some, None, refl, sym, ap, subst, ◌∙◌, arith}
 use Rattle.std.specs.Prelude.{codes, eqb}
 use Rattle.std.proofs.lemmas.Bool.Decides.{nat_tests}
+use Rattle.std.proofs.lemmas.Bool.{or_parts}
 use Rattle.pm_tokens.specs.Symbols.{begins}
 use Rattle.pm_tokens.specs.Pieces.{is_blank, begins_with}
 use Rattle.pm_cutter.specs.Cutting.{Mode, gap, inside, comment, passing, uncommented, Move, is_stop, is_brace, in_sentence, move_over, start_of}
@@ -18,34 +19,30 @@ two end last (inside start quoted) at b c xs ys = refl
 two end last (comment n m) at b c xs ys = refl
 two end last (passing m) at b c xs ys = refl
 
-neither : (x y : Bool) → (x || y) ≡ false → (x ≡ false) × (y ≡ false)
-neither true y e = absurd cc
-neither false y e = (refl, e)
-
 no_stop : (x y : Bool) → (x && not y) ≡ false → (t : Bool) → (not y && (x && t)) ≡ false
 no_stop true true e t = refl
 no_stop true false e t = absurd cc
 no_stop false true e t = refl
 no_stop false false e t = refl
 
-is_byte : (b n : ℕ) → (b == n) ≡ false → eqb n b ≡ false
-is_byte b n e = grind (arith, nat_tests, e)
+pub not_byte : (b n : ℕ) → (b == n) ≡ false → eqb n b ≡ false
+not_byte b n e = grind (arith, nat_tests, e)
 
-is_same : (b n : ℕ) → (b == n) ≡ true → b ≡ n
-is_same b n e = grind (arith, nat_tests, e)
+pub is_number : (b n : ℕ) → (b == n) ≡ true → b ≡ n
+is_number b n e = grind (arith, nat_tests, e)
 
 -- no byte is needed where none is waited for
 pub settled : (end : Bool) (m : Mode) (at b : ℕ) (xs : List ℕ) → waits m b ≡ false → move_over end m at (b ∷ xs) ≡ move_over false m at (b ∷ [])
 unfolding move_over in_sentence is_stop is_brace waits
-settled end gap at b [] e = let h = neither (b == 46) (b == 40) e in rw h.0 refl
-settled end gap at b (c ∷ xs) e = let h = neither (b == 46) (b == 40) e in rw (is_byte b 40 h.1, h.0) refl
+settled end gap at b [] e = let h = or_parts (b == 46) (b == 40) e in rw h.0 refl
+settled end gap at b (c ∷ xs) e = let h = or_parts (b == 46) (b == 40) e in rw (not_byte b 40 h.1, h.0) refl
 settled end (inside start quoted) at b [] e =
-    let h = neither (b == 46 && not quoted) (b == 40) e in rw (no_stop (b == 46) quoted h.0 end, no_stop (b == 46) quoted h.0 false) refl
+    let h = or_parts (b == 46 && not quoted) (b == 40) e in rw (no_stop (b == 46) quoted h.0 end, no_stop (b == 46) quoted h.0 false) refl
 settled end (inside start quoted) at b (c ∷ xs) e =
-    let h = neither (b == 46 && not quoted) (b == 40) e in
-    rw (is_byte b 40 h.1, no_stop (b == 46) quoted h.0 (is_blank c), no_stop (b == 46) quoted h.0 false) refl
+    let h = or_parts (b == 46 && not quoted) (b == 40) e in
+    rw (not_byte b 40 h.1, no_stop (b == 46) quoted h.0 (is_blank c), no_stop (b == 46) quoted h.0 false) refl
 settled end (comment n m) at b [] e = refl
-settled end (comment n m) at b (c ∷ xs) e = let h = neither (b == 40) (b == 42) e in rw (is_byte b 40 h.0, is_byte b 42 h.1) refl
+settled end (comment n m) at b (c ∷ xs) e = let h = or_parts (b == 40) (b == 42) e in rw (not_byte b 40 h.0, not_byte b 42 h.1) refl
 settled end (passing m) at b xs e = refl
 
 either : (x y : Bool) (P : Type 0) → (x || y) ≡ true → (x ≡ true → P) → (y ≡ true → P) → P
@@ -63,7 +60,7 @@ pub data Waiting : ℕ → Type 0 where
   star : Waiting 42
 
 at_byte : (b n : ℕ) → (b == n) ≡ true → Waiting n → Waiting b
-at_byte b n e w = subst (λ (k : ℕ). Waiting k) (sym (is_same b n e)) w
+at_byte b n e w = subst (λ (k : ℕ). Waiting k) (sym (is_number b n e)) w
 
 pub waiting : (m : Mode) (b : ℕ) → waits m b ≡ true → Waiting b
 unfolding waits

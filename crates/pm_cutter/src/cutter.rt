@@ -13,7 +13,7 @@ use pm_logic::{Bytes, List, Memory};
 use std::alloc::Global;
 
 /// Cuts a script into sentences, however its bytes come. It holds the bytes of the sentence that isn't finished.
-#[derive(Debug, Drop)]
+#[derive(Drop)]
 pub struct Cutter {
     alloc: Global,
     /// A feed was refused memory.

@@ -11,6 +11,3 @@ mod span;
 pub use cutter::Cutter;
 pub use laws::{cut_is_splitting, cutting_is_steady};
 pub use span::{Ended, Span};
-
-#[cfg(test)]
-mod tests;

@@ -1,7 +1,7 @@
 //! Where a byte of a script stands.
 
 /// A place outside comments.
-#[derive(Clone, Copy, Debug)]
+#[derive(Clone, Copy)]
 pub enum Region {
     /// Between sentences.
     Gap,
@@ -9,7 +9,7 @@ pub enum Region {
     Sentence { start: u64, quoted: bool },
 }
 
-#[derive(Clone, Copy, Debug)]
+#[derive(Clone, Copy)]
 pub struct Mode {
     pub region: Region,
     /// How many comments are open.
@@ -19,7 +19,7 @@ pub struct Mode {
 }
 
 /// What a byte does.
-#[derive(Clone, Copy, Debug)]
+#[derive(Clone, Copy)]
 pub enum Move {
     On(Mode),
     /// It finishes the sentence from this offset to that one, which isn't part of it.

@@ -7,18 +7,7 @@ ghost use Rattle.pm_cutter.specs.Cutting.{gap, inside, uncommented, is_stop, is_
 ghost use Rattle.pm_cutter.specs.Machine.{region_of, mode_of, moved, depth_of, waits};
 
 use crate::mode::{Mode, Move, Region};
-
-fn begins(text: &str, bytes: &[u8]) -> bool
-    ensures { result ≡ begins text.now bytes.now }
-{
-    bytes.starts_with(text.as_bytes())
-}
-
-fn is_blank(b: u8) -> bool
-    ensures { result ≡ is_blank b }
-{
-    b == b' ' || b == b'\t' || b == b'\r' || b == b'\n'
-}
+use pm_tokens::{begins, is_blank};
 
 /// A full stop before a blank; the flag says whether the end of the bytes counts as one.
 #[tactic(auto, unfolding(crate::specs::Cutting::is_stop))]

@@ -3,14 +3,14 @@
 use pm_logic::Bytes;
 
 /// A sentence's bytes without its full stop, and the offset of the first.
-#[derive(Debug, Drop)]
+#[derive(Drop)]
 pub struct Span {
     pub offset: u64,
     pub text: Bytes,
 }
 
 /// How a script ends, where the end counts as a blank.
-#[derive(Debug, Drop)]
+#[derive(Drop)]
 pub enum Ended {
     /// With blanks and closed comments.
     Clean,

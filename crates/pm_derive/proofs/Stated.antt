@@ -121,10 +121,6 @@ pred_before q rest =
     regroup : (a b : List ℕ) → codes "pred " ++ (a ++ (32 ∷ (b ++ (10 ∷ rest)))) ≡ (codes "pred " ++ (a ++ (32 ∷ (b ++ 10 ∷ [])))) ++ rest
     regroup a b = simp append_assoc
 
-pub no_preds : (preds : List Pred) (out : List ℕ) → length preds < 1 → out ≡ out ++ preds_text preds []
-no_preds [] out few = sym (append-nil out)
-no_preds (q ∷ preds) out few = absurd (omega arith)
-
 pub more_preds : (preds : List Pred) (q : Pred) → 1 ≤ length preds → q ≡ get_or preds 0 q → preds_text preds [] ≡ pred_text q [] ++ preds_text (take (length preds - 1) (drop 1 preds)) []
 more_preds [] q some at = absurd (omega arith)
 more_preds (x ∷ preds) q some at =

@@ -11,6 +11,3 @@ mod texts;
 
 pub use derivation::Derivation;
 pub use laws::{sides_grow, tables_grow};
-
-#[cfg(test)]
-mod tests;

@@ -1,10 +1,7 @@
 -- Reading so many items, in a loop.
-use Rattle.std.proofs.Common.{◌≡◌, ℕ, suc, ◌<◌, ◌≤◌, ◌+◌, ◌-◌, List, [], ◌∷◌, ◌++◌, refl, sym, ◌∙◌, ap, arith, append_assoc, Result, Ok, Err}
+use Rattle.std.proofs.Common.{◌≡◌, ℕ, suc, ◌<◌, ◌≤◌, ◌+◌, ◌-◌, List, [], ◌∷◌, ◌++◌, refl, sym, ◌∙◌, ap, arith, append_assoc, append-nil, Result, Ok, Err}
 use Rattle.pm_dtext.specs.declared.fault.Fault.{Fault}
 use Rattle.pm_dtext.specs.Reading.{◌>>=◌, part_at, items_at}
-
-abbrev Reader : Type 0 → Type 0
-Reader A = List ℕ → Result (A × List ℕ) Fault
 
 -- what is read with these items before it
 abbrev pub behind : {A : Type 0} → List A → Result (List A × List ℕ) Fault → Result (List A × List ℕ) Fault
@@ -16,7 +13,7 @@ pub record ItemsLeft {A : Type 0} (inner : List ℕ → Result (A × List ℕ) F
   pub within : turn ≤ count
   pub same : items_at inner count bytes ≡ behind done (items_at inner (count - turn) rest)
 
-whole : {A : Type 0} (r : Result (List A × List ℕ) Fault) → r ≡ behind [] r
+pub whole : {A : Type 0} (r : Result (List A × List ℕ) Fault) → r ≡ behind [] r
 whole (Ok xs) = refl
 whole (Err f) = refl
 
@@ -50,12 +47,8 @@ items_failed inner count bytes done turn rest f h more e =
     let now : count - turn ≡ suc (count - (turn + 1)) = omega arith in
     h.same ∙ (ap (λ n. behind done (items_at inner n rest)) now ∙ failed inner (count - (turn + 1)) rest f done e)
 
-pub none_left : {A : Type 0} (done : List A) → done ++ [] ≡ done
-none_left [] = refl
-none_left (x ∷ done) = ap (λ xs. x ∷ xs) (none_left done)
-
 pub items_ended : {A : Type 0} (inner : List ℕ → Result (A × List ℕ) Fault) (count : ℕ) (bytes : List ℕ) (done : List A) (turn : ℕ) (rest : List ℕ) → ItemsLeft inner count bytes done turn rest → count ≤ turn → items_at inner count bytes ≡ Ok (done, rest)
 unfolding items_at
 items_ended inner count bytes done turn rest h last =
     let now : count - turn ≡ 0 = omega arith in
-    h.same ∙ (ap (λ n. behind done (items_at inner n rest)) now ∙ ap (λ xs. Ok (xs, rest)) (none_left done))
+    h.same ∙ (ap (λ n. behind done (items_at inner n rest)) now ∙ ap (λ xs. Ok (xs, rest)) (append-nil done))

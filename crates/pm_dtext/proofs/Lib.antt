@@ -1,4 +1,5 @@
 pub mod Steps
+pub mod StepParts
 pub mod Numbers
 pub mod Levels
 pub mod Named

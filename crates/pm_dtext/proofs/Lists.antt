@@ -1,17 +1,13 @@
 -- Reading numbers up to a line's end, in a loop.
-use Rattle.std.proofs.Common.{◌≡◌, ℕ, zero, suc, ◌<◌, ◌≤◌, ◌+◌, ◌-◌, true, false, List, [], ◌∷◌, ◌++◌, refl, sym, ◌∙◌, ap, arith, append_assoc, Result, Ok, Err}
+use Rattle.std.proofs.Common.{◌≡◌, ℕ, zero, suc, ◌<◌, ◌≤◌, ◌+◌, ◌-◌, true, false, List, [], ◌∷◌, ◌++◌, refl, sym, ◌∙◌, ap, arith, append_assoc, append-nil, Result, Ok, Err}
 use Rattle.pm_dtext.specs.declared.fault.Fault.{Fault}
 use Rattle.pm_dtext.specs.Reading.{◌>>=◌, part_at, says_at, up_to, skip_at, ends_at, ends_line, numbers_at}
-use Rattle.pm_dtext.proofs.Items.{behind, none_left}
+use Rattle.pm_dtext.proofs.Items.{behind, whole}
 
 -- of the numbers at the bytes these are read, and at most so many are left at the rest
 pub record NumbersLeft (most : ℕ) (bytes : List ℕ) (done : List ℕ) (turn : ℕ) (rest : List ℕ) : Type 0 where
   pub within : turn ≤ most
   pub same : numbers_at most bytes ≡ behind done (numbers_at (most - turn) rest)
-
-whole : (r : Result (List ℕ × List ℕ) Fault) → r ≡ behind [] r
-whole (Ok xs) = refl
-whole (Err f) = refl
 
 pub numbers_begun : (most : ℕ) (bytes : List ℕ) → NumbersLeft most bytes [] 0 bytes
 numbers_begun most bytes =
@@ -48,7 +44,7 @@ unfolding ends_at
 closes done rest = go (skip_at 10 rest)
   where
     go : (r : Result (List ℕ) Fault) → behind done (r >>= λ end. Ok ([], end)) ≡ (r >>= λ end. Ok (done, end))
-    go (Ok end) = ap (λ xs. Ok (xs, end)) (none_left done)
+    go (Ok end) = ap (λ xs. Ok (xs, end)) (append-nil done)
     go (Err f) = refl
 
 at_end : (left : ℕ) (rest : List ℕ) → ends_line rest ≡ true → numbers_at left rest ≡ ends_at ([], rest)

@@ -15,14 +15,6 @@ bind_ok (Err d) f y e = absurd cc
 pub with_ok : {A B P : Type 0} (r : Result A Fault) (f : A → Result B Fault) (y : B) → (r >>= f) ≡ Ok y → ((x : A) → r ≡ Ok x → f x ≡ Ok y → P) → P
 with_ok r f y e go = let b = bind_ok r f y e in go b.0 b.1 b.2
 
--- where there are levels left
-pub more_ok : {A : Type 0} (levels : ℕ) (d : Fault) (r : Result A Fault) (y : A) → cond (levels == 0) (Err d) r ≡ Ok y → (0 < levels) × (r ≡ Ok y)
-more_ok levels d r y e = go (levels == 0) refl e
-  where
-    go : (b : Bool) → (levels == 0) ≡ b → cond b (Err d) r ≡ Ok y → (0 < levels) × (r ≡ Ok y)
-    go true is e = absurd cc
-    go false is e = (grind (arith, nat_tests), e)
-
 pub chosen_ok : {A : Type 0} (b : Bool) (x y : A) (d : Fault) → cond b (Ok x) (Err d) ≡ Ok y → (b ≡ true) × (x ≡ y)
 chosen_ok true x y d e = (refl, cc)
 chosen_ok false x y d e = absurd cc
@@ -40,6 +32,9 @@ or_syntax_ok None bytes x rest e = absurd cc
 or_syntax_ok {A} (Some y) bytes x rest e =
     let both : (y, after bytes) ≡ (x, rest) = cc in
     (ap (λ (p : A × List ℕ). Some p.0) both, ap (λ (p : A × List ℕ). p.1) both)
+
+pub same_some : {A : Type 0} (x y : A) → Some x ≡ Some y → x ≡ y
+same_some x y e = cc
 
 abbrev done : {A : Type 0} → A → Result A Fault
 done x = Ok x

@@ -60,10 +60,6 @@ expect_again w rest h e =
     if_true (bytes_eq (word (w ++ rest)) w) (Ok (after (w ++ rest))) (Err (Syntax (length (w ++ rest)))) ((bytes_eq-Decides (word (w ++ rest)) w).1 (word_again w rest h e))
     ∙ ap (λ (x : List ℕ). Ok x) (after_again w rest h e)
 
-pub skip_again : (s : ℕ) (rest : List ℕ) → skip_at s (s ∷ rest) ≡ Ok rest
-unfolding skip_at
-skip_again s rest = if_true (s == s) (Ok rest) (Err (Syntax (suc (length rest)))) ((Decides-eqb s s).1 refl)
-
 -- a word that says x
 pub says_again : {A : Type 0} (says : List ℕ → Option A) (w rest : List ℕ) (x : A) → is_word w ≡ true → stops rest ≡ true → says w ≡ Some x → says_at says (w ++ rest) ≡ Ok (x, rest)
 unfolding says_at

@@ -2,14 +2,14 @@
 
 ghost use Rattle.std.specs.Prelude.{◌≡◌, ◌≤◌, length};
 ghost use Rattle.pm_dtext.specs.Texts.{Gives, told};
-ghost use Rattle.pm_dtext.specs.Reading.{part_at, pair_at, items_at, list_at, says_at, literal_of, term_at, args_at};
+ghost use Rattle.pm_dtext.specs.Reading.{part_at, part_as, pair_at, parts_at, items_at, list_at, says_at, literal_of, term_at, formula_at, args_at};
+ghost use Rattle.pm_rules.specs.declared.rules.Rule.TheVariants as rule;
 
 use crate::arities::Arities;
 use crate::fault::ReadFault;
-use crate::formulas::formula;
 use crate::signs::RuleSign;
-use crate::terms::{term, terms};
 use crate::words::{factor, skip, up_to};
+use crate::{formulas, terms};
 use pm_logic::{List, Term};
 use pm_rules::Rule;
 use std::alloc::Global;
@@ -54,11 +54,58 @@ fn counted_terms(alloc: Global, vars: u32, bytes: &[u8]) -> Result<(List<Term>, 
     ensures { Gives (λ x. (x.0, x.1.now)) result (part_at (list_at 1000 (term_at 1000 vars)) bytes.now) }
 {
     let (count, rest) = up_to(1000, skip(b' ', bytes)?)?;
-    terms(alloc, 1000, vars, count, rest)
+    terms::terms(alloc, 1000, vars, count, rest)
+}
+
+#[tactic(auto, unfolding(crate::specs::Reading::part_as))]
+fn instance(alloc: Global, vars: u32, bytes: &[u8]) -> Result<(Rule, &[u8]), ReadFault>
+    ensures { Gives (λ x. (x.0, x.1.now)) result (part_as rule.Inst (list_at 1000 (term_at 1000 vars)) bytes.now) }
+{
+    let (sigma, rest) = counted_terms(alloc, vars, bytes)?;
+    Ok((Rule::Inst { sigma }, rest))
+}
+
+#[tactic(auto, unfolding(crate::specs::Reading::part_as))]
+fn all_elim(alloc: Global, vars: u32, bytes: &[u8]) -> Result<(Rule, &[u8]), ReadFault>
+    ensures { Gives (λ x. (x.0, x.1.now)) result (part_as rule.AllE (term_at 1000 vars) bytes.now) }
+{
+    let (t, rest) = terms::part(alloc, 1000, vars, bytes)?;
+    Ok((Rule::AllE { t }, rest))
+}
+
+#[tactic(auto, unfolding(crate::specs::Reading::part_as))]
+fn exists_intro(alloc: Global, vars: u32, bytes: &[u8]) -> Result<(Rule, &[u8]), ReadFault>
+    ensures { Gives (λ x. (x.0, x.1.now)) result (part_as rule.ExI (term_at 1000 vars) bytes.now) }
+{
+    let (t, rest) = terms::part(alloc, 1000, vars, bytes)?;
+    Ok((Rule::ExI { t }, rest))
+}
+
+#[tactic(auto, unfolding(crate::specs::Reading::parts_at))]
+fn linear(alloc: Global, bytes: &[u8]) -> Result<(Rule, &[u8]), ReadFault>
+    ensures { Gives (λ x. (x.0, x.1.now)) result (parts_at rule.Linear (list_at 66 (says_at literal_of)) bytes.now) }
+{
+    let (first, second, rest) = two_lists(alloc, bytes)?;
+    Ok((Rule::Linear { first, second }, rest))
+}
+
+#[tactic(auto, unfolding(crate::specs::Reading::part_as))]
+fn rewrite<'a>(
+    alloc: Global,
+    arities: Arities,
+    vars: u32,
+    bytes: &'a [u8],
+) -> Result<(Rule, &'a [u8]), ReadFault>
+    requires table { length (told arities) ≤ 1000000 }
+    requires few { vars ≤ 1001 }
+    ensures { Gives (λ x. (x.0, x.1.now)) result (part_as rule.Rewrite (formula_at (told arities.entry) 1000 vars) bytes.now) }
+{
+    let (template, rest) = formulas::part(alloc, arities, 1000, vars, bytes)?;
+    Ok((Rule::Rewrite { template }, rest))
 }
 
 /// The rule with its arguments, where its conclusion has so many variables.
-#[tactic(auto, unfolding(crate::specs::Reading::args_at, crate::specs::Reading::part_as, crate::specs::Reading::parts_at, crate::specs::Reading::part_at))]
+#[tactic(auto, unfolding(crate::specs::Reading::args_at))]
 pub fn with_arguments<'a>(
     alloc: Global,
     arities: Arities,
@@ -72,25 +119,10 @@ pub fn with_arguments<'a>(
 {
     match sign {
         RuleSign::Plain(rule) => Ok((rule, bytes)),
-        RuleSign::Inst => {
-            let (sigma, rest) = counted_terms(alloc, vars, bytes)?;
-            Ok((Rule::Inst { sigma }, rest))
-        }
-        RuleSign::AllE => {
-            let (t, rest) = term(alloc, 1000, vars, skip(b' ', bytes)?)?;
-            Ok((Rule::AllE { t }, rest))
-        }
-        RuleSign::ExI => {
-            let (t, rest) = term(alloc, 1000, vars, skip(b' ', bytes)?)?;
-            Ok((Rule::ExI { t }, rest))
-        }
-        RuleSign::Linear => {
-            let (first, second, rest) = two_lists(alloc, bytes)?;
-            Ok((Rule::Linear { first, second }, rest))
-        }
-        RuleSign::Rewrite => {
-            let (template, rest) = formula(alloc, arities, 1000, vars + 1, skip(b' ', bytes)?)?;
-            Ok((Rule::Rewrite { template }, rest))
-        }
+        RuleSign::Inst => instance(alloc, vars, bytes),
+        RuleSign::AllE => all_elim(alloc, vars, bytes),
+        RuleSign::ExI => exists_intro(alloc, vars, bytes),
+        RuleSign::Linear => linear(alloc, bytes),
+        RuleSign::Rewrite => rewrite(alloc, arities, vars + 1, bytes),
     }
 }

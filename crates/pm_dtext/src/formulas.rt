@@ -1,6 +1,6 @@
 //! Formulas. Each reader takes how many levels there may be, and how many variables there are.
 
-ghost use Rattle.std.specs.Prelude.{◌≡◌, ◌+◌, ◌<◌, ◌≤◌, length};
+ghost use Rattle.std.specs.Prelude.{◌≡◌, ◌+◌, ◌<◌, ◌≤◌, length, IfOk};
 ghost use Rattle.pm_logic.specs.declared.formula.Formula.TheVariants as variants;
 ghost use Rattle.pm_logic.specs.declared.formula.TheConstants.{BOUND};
 ghost use Rattle.pm_rules.specs.Shapes.{one, two};
@@ -11,36 +11,35 @@ use crate::arities::{Arities, predicate};
 use crate::fault::{Fault, ReadFault};
 use crate::pures::pure;
 use crate::signs::{FormulaSign, formula_sign};
-use crate::terms::{term, terms};
-use crate::words::{skip, units};
-use pm_logic::Formula;
+use crate::terms;
+use crate::words::{share, skip};
+use pm_logic::{Formula, Memory, all, and, ex, imp, later, or, pers, sep, upd, wand};
 use pm_rules::{Binary, Unary};
-use sqlite_items::Boxed;
 use std::alloc::Global;
 
 /// The formula under the sign.
-fn wrapped(sign: Unary, f: Boxed<Formula>) -> Formula
-    ensures { result ≡ one sign f }
+fn wrapped(alloc: Global, sign: Unary, f: Formula) -> Result<Formula, Memory>
+    ensures { IfOk result (λ made. made ≡ one sign f) }
 {
     match sign {
-        Unary::All => Formula::All(f),
-        Unary::Ex => Formula::Ex(f),
-        Unary::Later => Formula::Later(f),
-        Unary::Pers => Formula::Pers(f),
-        Unary::Upd => Formula::Upd(f),
+        Unary::All => all(alloc, f),
+        Unary::Ex => ex(alloc, f),
+        Unary::Later => later(alloc, f),
+        Unary::Pers => pers(alloc, f),
+        Unary::Upd => upd(alloc, f),
     }
 }
 
 /// The two formulas under the sign.
-fn joined(sign: Binary, left: Boxed<Formula>, right: Boxed<Formula>) -> Formula
-    ensures { result ≡ two sign left right }
+fn joined(alloc: Global, sign: Binary, left: Formula, right: Formula) -> Result<Formula, Memory>
+    ensures { IfOk result (λ made. made ≡ two sign left right) }
 {
     match sign {
-        Binary::Sep => Formula::Sep(left, right),
-        Binary::Wand => Formula::Wand(left, right),
-        Binary::And => Formula::And(left, right),
-        Binary::Or => Formula::Or(left, right),
-        Binary::Imp => Formula::Imp(left, right),
+        Binary::Sep => sep(alloc, left, right),
+        Binary::Wand => wand(alloc, left, right),
+        Binary::And => and(alloc, left, right),
+        Binary::Or => or(alloc, left, right),
+        Binary::Imp => imp(alloc, left, right),
     }
 }
 
@@ -70,7 +69,7 @@ fn fact<'a>(
 }
 
 /// The points-to behind its word.
-#[tactic(auto, unfolding(crate::specs::Reading::points_at, crate::specs::Reading::part_at))]
+#[tactic(auto, unfolding(crate::specs::Reading::points_at))]
 fn points(
     alloc: Global,
     levels: u32,
@@ -79,9 +78,9 @@ fn points(
 ) -> Result<(Formula, &[u8]), ReadFault>
     ensures { Gives (λ x. (x.0, x.1.now)) result (points_at (term_at levels vars) bytes.now) }
 {
-    let (loc, rest) = term(alloc, levels, vars, skip(b' ', bytes)?)?;
-    let (units, rest) = units(skip(b' ', rest)?)?;
-    let (val, rest) = term(alloc, levels, vars, skip(b' ', rest)?)?;
+    let (loc, rest) = terms::part(alloc, levels, vars, bytes)?;
+    let (units, rest) = share(rest)?;
+    let (val, rest) = terms::part(alloc, levels, vars, rest)?;
     Ok((Formula::Pts { loc, units, val }, rest))
 }
 
@@ -98,7 +97,7 @@ fn call<'a>(
     ensures { Gives (λ x. (x.0, x.1.now)) result (call_at (told arities.entry) (term_at levels vars) bytes.now) }
 {
     let ((pred, arity), rest) = predicate(arities, skip(b' ', bytes)?)?;
-    let (args, rest) = terms(alloc, levels, vars, arity, rest)?;
+    let (args, rest) = terms::terms(alloc, levels, vars, arity, rest)?;
     Ok((Formula::Call { pred, args }, rest))
 }
 
@@ -161,8 +160,8 @@ fn two_under<'a>(
     requires within { vars + levels < BOUND }
     ensures { Gives (λ x. (x.0, x.1.now)) result (parts_at (two sign) (formula_at (told arities.entry) levels vars) bytes.now) }
 {
-    let (left, right, rest) = two_boxes(alloc, arities, levels, vars, bytes)?;
-    Ok((joined(sign, left, right), rest))
+    let (left, right, rest) = two_formulas(alloc, arities, levels, vars, bytes)?;
+    Ok((joined(alloc, sign, left, right)?, rest))
 }
 
 #[cycle(formula)]
@@ -180,49 +179,30 @@ fn one_under<'a>(
     ensures { Gives (λ x. (x.0, x.1.now)) result (part_as (one sign) (formula_at (told arities.entry) levels (variables_under sign vars)) bytes.now) }
 {
     let under = variables_under(sign, vars);
-    let (f, rest) = one_box(alloc, arities, levels, under, bytes)?;
-    Ok((wrapped(sign, f), rest))
+    let (f, rest) = part(alloc, arities, levels, under, bytes)?;
+    Ok((wrapped(alloc, sign, f)?, rest))
 }
 
-/// A formula behind a blank, in a box.
+/// A formula behind a blank.
 #[cycle(formula)]
 #[tactic(auto, unfolding(crate::specs::Reading::part_at))]
-fn one_box<'a>(
+pub fn part<'a>(
     alloc: Global,
     arities: Arities,
     levels: u32,
     vars: u32,
     bytes: &'a [u8],
-) -> Result<(Boxed<Formula>, &'a [u8]), ReadFault>
+) -> Result<(Formula, &'a [u8]), ReadFault>
     requires table { length (told arities) ≤ 1000000 }
     requires within { vars + levels ≤ BOUND }
     ensures { Gives (λ x. (x.0, x.1.now)) result (part_at (formula_at (told arities.entry) levels vars) bytes.now) }
 {
-    let (f, rest) = formula(alloc, arities, levels, vars, skip(b' ', bytes)?)?;
-    Ok((Boxed::new(alloc, f)?, rest))
-}
-
-/// Two formulas, each behind a blank, in boxes.
-#[cycle(formula)]
-#[tactic(auto, unfolding(crate::specs::Reading::pair_at))]
-fn two_boxes<'a>(
-    alloc: Global,
-    arities: Arities,
-    levels: u32,
-    vars: u32,
-    bytes: &'a [u8],
-) -> Result<(Boxed<Formula>, Boxed<Formula>, &'a [u8]), ReadFault>
-    requires table { length (told arities) ≤ 1000000 }
-    requires within { vars + levels ≤ BOUND }
-    ensures { Gives (λ x. (x.0, x.1, x.2.now)) result (pair_at (formula_at (told arities.entry) levels vars) bytes.now) }
-{
-    let (left, rest) = one_box(alloc, arities, levels, vars, bytes)?;
-    let (right, rest) = one_box(alloc, arities, levels, vars, rest)?;
-    Ok((left, right, rest))
+    formula(alloc, arities, levels, vars, skip(b' ', bytes)?)
 }
 
 /// Two formulas, each behind a blank.
-#[tactic(auto, unfolding(crate::specs::Reading::pair_at, crate::specs::Reading::part_at))]
+#[cycle(formula)]
+#[tactic(auto, unfolding(crate::specs::Reading::pair_at))]
 pub fn two_formulas<'a>(
     alloc: Global,
     arities: Arities,
@@ -234,7 +214,7 @@ pub fn two_formulas<'a>(
     requires within { vars + levels ≤ BOUND }
     ensures { Gives (λ x. (x.0, x.1, x.2.now)) result (pair_at (formula_at (told arities.entry) levels vars) bytes.now) }
 {
-    let (left, rest) = formula(alloc, arities, levels, vars, skip(b' ', bytes)?)?;
-    let (right, rest) = formula(alloc, arities, levels, vars, skip(b' ', rest)?)?;
+    let (left, rest) = part(alloc, arities, levels, vars, bytes)?;
+    let (right, rest) = part(alloc, arities, levels, vars, rest)?;
     Ok((left, right, rest))
 }

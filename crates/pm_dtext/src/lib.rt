@@ -26,6 +26,3 @@ pub use laws::{
 pub use line::Line;
 pub use names::rule_name;
 pub use texts::{read_arities, read_header, read_line, read_pred};
-
-#[cfg(test)]
-mod tests;

@@ -4,7 +4,7 @@ use pm_logic::Name;
 use pm_rules::{Entail, Rule};
 
 /// A line that was read.
-#[derive(Debug, Drop)]
+#[derive(Drop)]
 pub enum Line {
     /// A proof line: the entailment follows by the rule from the proof lines of these numbers.
     Step {

@@ -1,8 +1,9 @@
 //! One line of a derivation text.
 
-ghost use Rattle.std.specs.Prelude.{◌≡◌, ◌≤◌, length};
+ghost use Rattle.std.specs.Prelude.{◌≡◌, ◌≤◌, length, IfOk};
 ghost use Rattle.pm_dtext.specs.Texts.{Reads, Gives, told};
-ghost use Rattle.pm_dtext.specs.Reading.{part_at, says_at, count_of, earlier_at, cite_at, entail_at, step_at, qed_at, line_at};
+ghost use Rattle.pm_dtext.specs.Reading.{part_at, says_at, count_of, earlier_at, cite_at, entail_at, qed_at, line_at};
+ghost use Rattle.pm_dtext.specs.Parts.{front_at, cites_at, derived_at, step_in_parts};
 
 use crate::arguments::with_arguments;
 use crate::arities::Arities;
@@ -13,7 +14,7 @@ use crate::names::rule_sign;
 use crate::signs::RuleSign;
 use crate::words::{expect_number, is_text, name, number, skip, up_to, word_of};
 use pm_logic::Name;
-use pm_rules::{Entail, premise_count};
+use pm_rules::{Entail, Rule, premise_count};
 use std::alloc::Global;
 
 /// How many premises the rule takes, whatever its arguments are.
@@ -68,8 +69,48 @@ fn entail<'a>(
     Ok((Entail { vars, left, right }, rest))
 }
 
+/// The number of a proof line, what its rule's name says, and how many variables there are.
+#[tactic(auto, unfolding(crate::specs::Parts::front_at, crate::specs::Reading::part_at))]
+fn front(next: u64, bytes: &[u8]) -> Result<(RuleSign, u32, &[u8]), Fault>
+    ensures reads { Reads (λ x. (x.0, x.1, x.2.now)) result (front_at next bytes.now) }
+    ensures few { IfOk result (λ x. x.1 ≤ 1000) }
+{
+    let rest = skip(b' ', expect_number(next, bytes)?)?;
+    let (sign, rest) = rule_sign(rest)?;
+    let (vars, rest) = up_to(1000, skip(b' ', rest)?)?;
+    Ok((sign, vars, rest))
+}
+
+/// The citations of a rule that takes so many premises.
+#[tactic(auto, unfolding(crate::specs::Parts::cites_at))]
+fn cites(next: u64, count: u8, bytes: &[u8]) -> Result<(Option<u64>, Option<u64>, &[u8]), Fault>
+    ensures { Reads (λ x. (x.0, x.1, x.2.now)) result (cites_at next count bytes.now) }
+{
+    let (first, rest) = cite(next, 1 <= count, bytes)?;
+    let (second, rest) = cite(next, 2 <= count, rest)?;
+    Ok((first, second, rest))
+}
+
+/// The rule with its arguments, and what it derives.
+#[tactic(auto, unfolding(crate::specs::Parts::derived_at))]
+fn derived<'a>(
+    alloc: Global,
+    arities: Arities,
+    vars: u32,
+    sign: RuleSign,
+    bytes: &'a [u8],
+) -> Result<(Rule, Entail, &'a [u8]), ReadFault>
+    requires table { length (told arities) ≤ 1000000 }
+    requires few { vars ≤ 1000 }
+    ensures { Gives (λ x. (x.0, x.1, x.2.now)) result (derived_at (told arities.entry) vars sign bytes.now) }
+{
+    let (rule, rest) = with_arguments(alloc, arities, vars, sign, bytes)?;
+    let (entail, rest) = entail(alloc, arities, vars, rest)?;
+    Ok((rule, entail, rest))
+}
+
 /// The proof line of this number.
-#[tactic(auto, unfolding(crate::specs::Reading::step_at, crate::specs::Reading::part_at, crate::specs::Reading::ends_at))]
+#[tactic(auto, unfolding(crate::specs::Parts::step_in_parts, crate::specs::Reading::ends_at))]
 fn step<'a>(
     alloc: Global,
     arities: Arities,
@@ -77,16 +118,11 @@ fn step<'a>(
     bytes: &'a [u8],
 ) -> Result<(Line, &'a [u8]), ReadFault>
     requires { length (told arities) ≤ 1000000 }
-    ensures { Gives (λ x. (x.0, x.1.now)) result (step_at (told arities.entry) next bytes.now) }
+    ensures { Gives (λ x. (x.0, x.1.now)) result (step_in_parts (told arities.entry) next bytes.now) }
 {
-    let rest = expect_number(next, bytes)?;
-    let (sign, rest) = rule_sign(skip(b' ', rest)?)?;
-    let (vars, rest) = up_to(1000, skip(b' ', rest)?)?;
-    let count = count_of(&sign);
-    let (first, rest) = cite(next, 1 <= count, rest)?;
-    let (second, rest) = cite(next, 2 <= count, rest)?;
-    let (rule, rest) = with_arguments(alloc, arities, vars, sign, rest)?;
-    let (entail, rest) = entail(alloc, arities, vars, rest)?;
+    let (sign, vars, rest) = front(next, bytes)?;
+    let (first, second, rest) = cites(next, count_of(&sign), rest)?;
+    let (rule, entail, rest) = derived(alloc, arities, vars, sign, rest)?;
     let rest = skip(b'\n', rest)?;
     let line = Line::Step {
         rule,
@@ -110,7 +146,7 @@ fn qed(alloc: Global, next: u64, bytes: &[u8]) -> Result<(Line, &[u8]), ReadFaul
 }
 
 /// The line at the front, and what follows it, where `next` is the number of the next proof line.
-#[tactic(auto, unfolding(crate::specs::Reading::line_at))]
+#[tactic(auto, unfolding(crate::specs::Reading::line_at), using(crate::proofs::StepParts::step_whole))]
 pub fn line<'a>(
     alloc: Global,
     arities: Arities,

@@ -10,8 +10,7 @@ use crate::fault::{Fault, ReadFault};
 use crate::signs::{PureSign, pure_sign};
 use crate::terms::two_terms;
 use crate::words::skip;
-use pm_logic::Pure;
-use sqlite_items::Boxed;
+use pm_logic::{Pure, pure_and, pure_not, pure_or};
 use std::alloc::Global;
 
 /// The pure formula at the front, and what follows it.
@@ -81,8 +80,8 @@ fn below(alloc: Global, levels: u32, vars: u32, bytes: &[u8]) -> Result<(Pure, &
 fn both(alloc: Global, levels: u32, vars: u32, bytes: &[u8]) -> Result<(Pure, &[u8]), ReadFault>
     ensures { Gives (λ x. (x.0, x.1.now)) result (parts_at pure.And (pure_at levels vars) bytes.now) }
 {
-    let (a, b, rest) = two_boxes(alloc, levels, vars, bytes)?;
-    Ok((Pure::And(a, b), rest))
+    let (a, b, rest) = two_pures(alloc, levels, vars, bytes)?;
+    Ok((pure_and(alloc, a, b)?, rest))
 }
 
 #[cycle(pure)]
@@ -90,8 +89,8 @@ fn both(alloc: Global, levels: u32, vars: u32, bytes: &[u8]) -> Result<(Pure, &[
 fn either(alloc: Global, levels: u32, vars: u32, bytes: &[u8]) -> Result<(Pure, &[u8]), ReadFault>
     ensures { Gives (λ x. (x.0, x.1.now)) result (parts_at pure.Or (pure_at levels vars) bytes.now) }
 {
-    let (a, b, rest) = two_boxes(alloc, levels, vars, bytes)?;
-    Ok((Pure::Or(a, b), rest))
+    let (a, b, rest) = two_pures(alloc, levels, vars, bytes)?;
+    Ok((pure_or(alloc, a, b)?, rest))
 }
 
 #[cycle(pure)]
@@ -99,37 +98,31 @@ fn either(alloc: Global, levels: u32, vars: u32, bytes: &[u8]) -> Result<(Pure, 
 fn negation(alloc: Global, levels: u32, vars: u32, bytes: &[u8]) -> Result<(Pure, &[u8]), ReadFault>
     ensures { Gives (λ x. (x.0, x.1.now)) result (part_as pure.Not (pure_at levels vars) bytes.now) }
 {
-    let (a, rest) = one_box(alloc, levels, vars, bytes)?;
-    Ok((Pure::Not(a), rest))
+    let (a, rest) = part(alloc, levels, vars, bytes)?;
+    Ok((pure_not(alloc, a)?, rest))
 }
 
-/// A pure formula behind a blank, in a box.
+/// A pure formula behind a blank.
 #[cycle(pure)]
 #[tactic(auto, unfolding(crate::specs::Reading::part_at))]
-fn one_box(
-    alloc: Global,
-    levels: u32,
-    vars: u32,
-    bytes: &[u8],
-) -> Result<(Boxed<Pure>, &[u8]), ReadFault>
+fn part(alloc: Global, levels: u32, vars: u32, bytes: &[u8]) -> Result<(Pure, &[u8]), ReadFault>
     ensures { Gives (λ x. (x.0, x.1.now)) result (part_at (pure_at levels vars) bytes.now) }
 {
-    let (a, rest) = pure(alloc, levels, vars, skip(b' ', bytes)?)?;
-    Ok((Boxed::new(alloc, a)?, rest))
+    pure(alloc, levels, vars, skip(b' ', bytes)?)
 }
 
-/// Two pure formulas, each behind a blank, in boxes.
+/// Two pure formulas, each behind a blank.
 #[cycle(pure)]
 #[tactic(auto, unfolding(crate::specs::Reading::pair_at))]
-fn two_boxes(
+fn two_pures(
     alloc: Global,
     levels: u32,
     vars: u32,
     bytes: &[u8],
-) -> Result<(Boxed<Pure>, Boxed<Pure>, &[u8]), ReadFault>
+) -> Result<(Pure, Pure, &[u8]), ReadFault>
     ensures { Gives (λ x. (x.0, x.1, x.2.now)) result (pair_at (pure_at levels vars) bytes.now) }
 {
-    let (a, rest) = one_box(alloc, levels, vars, bytes)?;
-    let (b, rest) = one_box(alloc, levels, vars, rest)?;
+    let (a, rest) = part(alloc, levels, vars, bytes)?;
+    let (b, rest) = part(alloc, levels, vars, rest)?;
     Ok((a, b, rest))
 }

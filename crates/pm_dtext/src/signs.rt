@@ -9,7 +9,7 @@ use crate::words::{index_of, is_text, literal_of, word_of};
 use pm_rules::{Binary, Rule, Unary};
 
 /// What the first word of a term says.
-#[derive(Clone, Copy, Debug, PartialEq, Eq)]
+#[derive(Clone, Copy)]
 pub enum TermSign {
     Lit(i64),
     Var(u32),
@@ -20,7 +20,7 @@ pub enum TermSign {
 }
 
 /// The signs of pure formulas.
-#[derive(Clone, Copy, Debug, PartialEq, Eq)]
+#[derive(Clone, Copy)]
 pub enum PureSign {
     True,
     False,
@@ -33,7 +33,7 @@ pub enum PureSign {
 }
 
 /// The signs of formulas.
-#[derive(Clone, Copy, Debug, PartialEq, Eq)]
+#[derive(Clone, Copy)]
 pub enum FormulaSign {
     Pure,
     Two(Binary),
@@ -43,7 +43,7 @@ pub enum FormulaSign {
 }
 
 /// What a rule's name says: the rule, or which arguments are still to come.
-#[derive(Debug, Drop)]
+#[derive(Drop)]
 pub enum RuleSign {
     Plain(Rule),
     Inst,

@@ -8,7 +8,7 @@ ghost use Rattle.pm_dtext.specs.Reading.{part_at, says_at, up_to, ends_at, ends_
 
 use crate::arities::Arities;
 use crate::fault::{Fault, ReadFault};
-use crate::formulas::formula;
+use crate::formulas;
 use crate::words::{expect, skip, up_to, word_of};
 use pm_logic::{List, Name, Pred};
 use pm_names::is_name;
@@ -108,8 +108,16 @@ fn new_name<'a>(preds: &[Pred], bytes: &'a [u8]) -> Result<(&'a [u8], &'a [u8]),
     }
 }
 
+/// Such a name behind a blank.
+#[tactic(auto, unfolding(crate::specs::Reading::part_at))]
+fn name_part<'a>(preds: &[Pred], bytes: &'a [u8]) -> Result<(&'a [u8], &'a [u8]), Fault>
+    ensures { Reads (λ x. (x.0.now, x.1.now)) result (part_at (says_at (new_name_of (names_of preds.now))) bytes.now) }
+{
+    new_name(preds, skip(b' ', bytes)?)
+}
+
 /// The predicate behind those of the table, and what follows its line.
-#[tactic(auto, unfolding(crate::specs::Reading::pred_at, crate::specs::Reading::part_at, crate::specs::Reading::ends_at))]
+#[tactic(auto, unfolding(crate::specs::Reading::pred_at, crate::specs::Reading::ends_at))]
 pub fn pred<'a>(
     alloc: Global,
     arities: &[u32],
@@ -122,14 +130,8 @@ pub fn pred<'a>(
     ensures { Gives (λ x. (x.0, x.1.now)) result (pred_at arities.now (names_of preds.now) arity bytes.now) }
 {
     let rest = expect("pred", bytes)?;
-    let (name, rest) = new_name(preds, skip(b' ', rest)?)?;
-    let (body, rest) = formula(
-        alloc,
-        Arities::Listed(arities),
-        1000,
-        arity,
-        skip(b' ', rest)?,
-    )?;
+    let (name, rest) = name_part(preds, rest)?;
+    let (body, rest) = formulas::part(alloc, Arities::Listed(arities), 1000, arity, rest)?;
     let rest = skip(b'\n', rest)?;
     let name = Name::from_bytes(alloc, name)?;
     Ok((Pred { name, arity, body }, rest))

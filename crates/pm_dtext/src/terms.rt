@@ -9,8 +9,7 @@ ghost use Rattle.pm_dtext.specs.declared.signs.TermSign.TheVariants as signs;
 use crate::fault::{Fault, ReadFault};
 use crate::signs::{TermSign, term_sign};
 use crate::words::{factor, skip};
-use pm_logic::{List, Term};
-use sqlite_items::Boxed;
+use pm_logic::{List, Term, add, neg, scale, sub};
 use std::alloc::Global;
 
 /// The term at the front, and what follows it.
@@ -53,8 +52,8 @@ fn term_under(
 fn sum(alloc: Global, levels: u32, vars: u32, bytes: &[u8]) -> Result<(Term, &[u8]), ReadFault>
     ensures { Gives (λ x. (x.0, x.1.now)) result (parts_at term.Add (term_at levels vars) bytes.now) }
 {
-    let (left, right, rest) = two_boxes(alloc, levels, vars, bytes)?;
-    Ok((Term::Add(left, right), rest))
+    let (left, right, rest) = two_terms(alloc, levels, vars, bytes)?;
+    Ok((add(alloc, left, right)?, rest))
 }
 
 #[cycle(term)]
@@ -67,8 +66,8 @@ fn difference(
 ) -> Result<(Term, &[u8]), ReadFault>
     ensures { Gives (λ x. (x.0, x.1.now)) result (parts_at term.Sub (term_at levels vars) bytes.now) }
 {
-    let (left, right, rest) = two_boxes(alloc, levels, vars, bytes)?;
-    Ok((Term::Sub(left, right), rest))
+    let (left, right, rest) = two_terms(alloc, levels, vars, bytes)?;
+    Ok((sub(alloc, left, right)?, rest))
 }
 
 #[cycle(term)]
@@ -76,8 +75,8 @@ fn difference(
 fn negative(alloc: Global, levels: u32, vars: u32, bytes: &[u8]) -> Result<(Term, &[u8]), ReadFault>
     ensures { Gives (λ x. (x.0, x.1.now)) result (part_as term.Neg (term_at levels vars) bytes.now) }
 {
-    let (t, rest) = one_box(alloc, levels, vars, bytes)?;
-    Ok((Term::Neg(t), rest))
+    let (t, rest) = part(alloc, levels, vars, bytes)?;
+    Ok((neg(alloc, t)?, rest))
 }
 
 #[cycle(term)]
@@ -86,50 +85,21 @@ fn product(alloc: Global, levels: u32, vars: u32, bytes: &[u8]) -> Result<(Term,
     ensures { Gives (λ x. (x.0, x.1.now)) result (term_under signs.Scale (term_at levels vars) bytes.now) }
 {
     let (z, rest) = factor(bytes)?;
-    let (t, rest) = one_box(alloc, levels, vars, rest)?;
-    Ok((Term::Scale(z, t), rest))
+    let (t, rest) = part(alloc, levels, vars, rest)?;
+    Ok((scale(alloc, z, t)?, rest))
 }
 
 /// A term behind a blank.
 #[cycle(term)]
 #[tactic(auto, unfolding(crate::specs::Reading::part_at))]
-fn part(alloc: Global, levels: u32, vars: u32, bytes: &[u8]) -> Result<(Term, &[u8]), ReadFault>
+pub fn part(alloc: Global, levels: u32, vars: u32, bytes: &[u8]) -> Result<(Term, &[u8]), ReadFault>
     ensures { Gives (λ x. (x.0, x.1.now)) result (part_at (term_at levels vars) bytes.now) }
 {
     term(alloc, levels, vars, skip(b' ', bytes)?)
 }
 
-/// The same in a box.
-#[cycle(term)]
-fn one_box(
-    alloc: Global,
-    levels: u32,
-    vars: u32,
-    bytes: &[u8],
-) -> Result<(Boxed<Term>, &[u8]), ReadFault>
-    ensures { Gives (λ x. (x.0, x.1.now)) result (part_at (term_at levels vars) bytes.now) }
-{
-    let (t, rest) = part(alloc, levels, vars, bytes)?;
-    Ok((Boxed::new(alloc, t)?, rest))
-}
-
-/// Two terms, each behind a blank, in boxes.
-#[cycle(term)]
-#[tactic(auto, unfolding(crate::specs::Reading::pair_at))]
-fn two_boxes(
-    alloc: Global,
-    levels: u32,
-    vars: u32,
-    bytes: &[u8],
-) -> Result<(Boxed<Term>, Boxed<Term>, &[u8]), ReadFault>
-    ensures { Gives (λ x. (x.0, x.1, x.2.now)) result (pair_at (term_at levels vars) bytes.now) }
-{
-    let (left, rest) = one_box(alloc, levels, vars, bytes)?;
-    let (right, rest) = one_box(alloc, levels, vars, rest)?;
-    Ok((left, right, rest))
-}
-
 /// Two terms, each behind a blank.
+#[cycle(term)]
 #[tactic(auto, unfolding(crate::specs::Reading::pair_at))]
 pub fn two_terms(
     alloc: Global,

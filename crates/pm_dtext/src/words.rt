@@ -171,7 +171,7 @@ pub fn up_to(most: u32, bytes: &[u8]) -> Result<(u32, &[u8]), Fault>
 
 /// The units at the front, 1 to a whole, and what follows them.
 #[tactic(auto, unfolding(crate::specs::Reading::says_at))]
-pub fn units(bytes: &[u8]) -> Result<(u32, &[u8]), Fault>
+fn units(bytes: &[u8]) -> Result<(u32, &[u8]), Fault>
     ensures { Reads (λ x. (x.0, x.1.now)) result (says_at units_of bytes.now) }
 {
     let (word, rest) = word_of(bytes);
@@ -179,6 +179,14 @@ pub fn units(bytes: &[u8]) -> Result<(u32, &[u8]), Fault>
         Some(u) => Ok((u, rest)),
         None => Err(Fault::Syntax(bytes.len())),
     }
+}
+
+/// Units behind a blank.
+#[tactic(auto, unfolding(crate::specs::Reading::part_at))]
+pub fn share(bytes: &[u8]) -> Result<(u32, &[u8]), Fault>
+    ensures { Reads (λ x. (x.0, x.1.now)) result (part_at (says_at units_of) bytes.now) }
+{
+    units(skip(b' ', bytes)?)
 }
 
 /// The literal at the front, and what follows it.

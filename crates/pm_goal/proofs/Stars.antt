@@ -1,11 +1,8 @@
 -- Stars that are built from their last part on.
-use Rattle.std.proofs.Common.{◌≡◌, ℕ, zero, suc, ◌+◌, ◌-◌, ◌<◌, ◌≤◌, List, [], ◌∷◌, length, drop, map, get_or, refl, sym, ◌∙◌, ap, arith}
+use Rattle.std.proofs.Common.{◌≡◌, ℕ, zero, suc, ◌-◌, ◌<◌, ◌≤◌, List, [], ◌∷◌, length, drop, map, get_or, refl, ◌∙◌, ap, arith}
 use Rattle.pm_logic.specs.declared.formula.Formula.{Formula}
-use Rattle.pm_logic.specs.declared.formula.Formula.TheVariants.{Pure as Assert}
 use Rattle.pm_logic.specs.declared.formula.Formula.TheViews as view
-use Rattle.pm_goal.specs.declared.goal.Hyp.{Hyp}
-use Rattle.pm_goal.specs.declared.goal.Fact.{Fact}
-use Rattle.pm_goal.specs.Left.{star_onto, facts, hyps}
+use Rattle.pm_goal.specs.Left.{star_onto}
 
 -- the star of the list's items from i on
 pub record IsStar {A : Type 0} (part : A → Formula) (list : List A) (i : ℕ) (end left : Formula) : Type 0 where

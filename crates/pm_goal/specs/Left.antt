@@ -1,5 +1,5 @@
 -- The left side of what a goal means.
-use Rattle.std.specs.Prelude.{List, [], ◌∷◌, ◌++◌, map}
+use Rattle.std.specs.Prelude.{List, [], ◌∷◌, map}
 use Rattle.pm_logic.specs.declared.formula.Formula.{Formula}
 use Rattle.pm_logic.specs.declared.formula.Formula.TheVariants.{Pure as Assert}
 use Rattle.pm_logic.specs.declared.formula.Formula.TheViews as view

@@ -2,18 +2,10 @@
 
 ghost use Rattle.std.specs.Prelude.{◌≡◌, [], IfOk};
 ghost use Rattle.pm_goal.specs.Left.{left_of, star_onto, facts, hyps};
-ghost use Rattle.pm_logic.specs.declared.formula.Formula.TheViews as view;
 
 use crate::goal::{Fact, Goal, Hyp};
-use pm_logic::{Formula, Memory, Pure, copy, copy_pure};
-use sqlite_items::Boxed;
+use pm_logic::{Formula, Memory, Pure, copy, copy_pure, sep};
 use std::alloc::Global;
-
-fn star(alloc: Global, a: Formula, b: Formula) -> Result<Formula, Memory>
-    ensures { IfOk result (λ f. f ≡ view.Sep a b) }
-{
-    Ok(Formula::Sep(Boxed::new(alloc, a)?, Boxed::new(alloc, b)?))
-}
 
 #[tactic(auto, using(crate::proofs::Stars::star_none))]
 fn hyps_onto(alloc: Global, list: &[Hyp], end: Formula) -> Result<Formula, Memory>
@@ -24,7 +16,7 @@ fn hyps_onto(alloc: Global, list: &[Hyp], end: Formula) -> Result<Formula, Memor
     while i > 0 {
         i -= 1;
         let formula = copy(alloc, &list[i].formula)?;
-        left = star(alloc, formula, left)?;
+        left = sep(alloc, formula, left)?;
     }
     Ok(left)
 }
@@ -38,7 +30,7 @@ fn facts_onto(alloc: Global, list: &[Fact], end: Formula) -> Result<Formula, Mem
     while i > 0 {
         i -= 1;
         let asserted = Formula::Pure(copy_pure(alloc, &list[i].pure)?);
-        left = star(alloc, asserted, left)?;
+        left = sep(alloc, asserted, left)?;
     }
     Ok(left)
 }

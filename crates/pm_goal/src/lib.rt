@@ -8,6 +8,3 @@ mod left;
 pub use finding::{Found, find};
 pub use goal::{Fact, Goal, Hyp};
 pub use left::left_of;
-
-#[cfg(test)]
-mod tests;

@@ -5,8 +5,6 @@ mod memory;
 mod sink;
 mod source;
 mod standard;
-#[cfg(test)]
-mod tests;
 
 pub use memory::{MemSink, MemSource, SureSource};
 pub use sink::{SendFault, Sink, write_all};

@@ -128,6 +128,7 @@ impl Model for MemSource {
 impl MemSource {
     /// A source of these bytes, whose reads with the numbers in `failing` fail. Reads are counted
     /// from 1, those that fail too. Those from the last `u64` on have no number and never fail.
+    /// The error is want of memory.
     pub fn new(alloc: Global, bytes: &[u8], failing: &[u64]) -> Result<MemSource, Memory>
         ensures { IfOk result (λ source. source ≡ new_input bytes.now failing.now) }
     {
@@ -177,7 +178,7 @@ impl Model for SureSource {
 }
 
 impl SureSource {
-    /// A source of these bytes.
+    /// A source of these bytes. The error is want of memory.
     pub fn new(alloc: Global, bytes: &[u8]) -> Result<SureSource, Memory>
         ensures { IfOk result (λ source. source ≡ bytes.now) }
     {
@@ -231,7 +232,7 @@ impl Model for MemSink {
 impl MemSink {
     /// An empty sink that takes at most `step` bytes a write, and whose writes with the numbers in
     /// `failing` fail with `Write`. Writes are counted from 1, those that fail too. Those from the
-    /// last `u64` on have no number and never fail so.
+    /// last `u64` on have no number and never fail so. The error is want of memory.
     pub fn new(alloc: Global, step: usize, failing: &[u64]) -> Result<MemSink, Memory>
         requires { 1 ≤ step }
         ensures { IfOk result (λ sink. sink ≡ new_output step failing.now) }

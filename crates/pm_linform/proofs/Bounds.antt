@@ -1,11 +1,10 @@
 -- How large the entries of sums are.
-use Rattle.std.proofs.Common.{◌≡◌, ◌≢◌, ◌⊎◌, inl, inr, mul-le-mul, ℕ, ◌*◌, ◌^◌, ◌≤◌, ℤ, pos, negsuc, ◌+ℤ◌, ◌*ℤ◌, ◌≤ℤ◌, sym, subst, arith}
-use Rattle.std.proofs.lemmas.Bool.{cases_eq}
+use Rattle.std.proofs.Common.{◌≡◌, mul-le-mul, ℕ, ◌*◌, ◌^◌, ◌≤◌, ℤ, pos, negsuc, ◌+ℤ◌, ◌*ℤ◌, ◌≤ℤ◌, sym, subst, arith}
 use Rattle.std.specs.Int.RustNames.{unsigned_abs}
 use Rattle.std.proofs.lemmas.Int.{ints, unsigned_abs-mul}
 use Rattle.pm_linform.specs.declared.Form.{Form}
 use Rattle.pm_linform.specs.Entries.{coefficient, room, IsAtMost, IsWithin, IsWithinTimes}
-use Rattle.pm_linform.specs.Sums.{IsZero, AddsVariable, AddsScaled}
+use Rattle.pm_linform.specs.Sums.{IsZero, AddsScaled}
 
 pub at_most_more : (a b x : ℤ) → a ≤ℤ b → IsAtMost a x → IsAtMost b x
 at_most_more a b x le h = let l = h.low in let m = h.high in record { low = omega (arith, ints); high = omega (arith, ints) }
@@ -48,25 +47,7 @@ within_times a b c f h k = record {
   constant = at_most_product a b c f.constant h k.constant;
 }
 
-pub within_times_more : (a b c : ℤ) (f : Form) → a ≤ℤ b → IsWithinTimes a c f → IsWithinTimes b c f
-within_times_more a b c f le h = record {
-  coefficients = λ i. at_most_more a b (c *ℤ coefficient f i) le (h.coefficients i);
-  constant = at_most_more a b (c *ℤ f.constant) le h.constant;
-}
-
--- the bounds of sums
-pub variable_within : (a b : ℤ) (i : ℕ) (c : ℤ) (old new : Form) → IsWithin a old → IsAtMost b c → AddsVariable i c old new → IsWithin (a +ℤ b) new
-variable_within a b i c old new h k s = record { coefficients = λ j. at j (cases_eq j i); constant = keep old.constant new.constant s.constant h.constant }
-  where
-    keep : (x y : ℤ) → y ≡ x → IsAtMost a x → IsAtMost (a +ℤ b) y
-    keep x y e m = let l = m.low in let n = m.high in let p = k.low in let q = k.high in record { low = omega (arith, ints); high = omega (arith, ints) }
-
-    at : (j : ℕ) → (j ≡ i) ⊎ (j ≢ i) → IsAtMost (a +ℤ b) (coefficient new j)
-    at j (inl e) =
-        let P : ℕ → Type 0 = λ n. IsAtMost (a +ℤ b) (coefficient new n) in
-        subst P (sym e) (at_most_sum a b (coefficient old i) c (coefficient new i) s.coefficient_is (h.coefficients i) k)
-    at j (inr ne) = keep (coefficient old j) (coefficient new j) (s.others j ne) (h.coefficients j)
-
+-- the bound of a sum
 pub scaled_within : (a b c : ℤ) (other old new : Form) → IsWithin a old → IsWithinTimes b c other → AddsScaled c other old new → IsWithin (a +ℤ b) new
 scaled_within a b c other old new h k s = record {
   coefficients = λ i. at_most_sum a b (coefficient old i) (c *ℤ coefficient other i) (coefficient new i) (s.coefficients i) (h.coefficients i) (k.coefficients i);

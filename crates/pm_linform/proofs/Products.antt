@@ -49,7 +49,7 @@ assoc_up b c x h =
     let r : (x +ℤ pos 1) *ℤ (b *ℤ c) ≡ (x *ℤ (b *ℤ c)) +ℤ (b *ℤ c) = distributes_left x (pos 1) (b *ℤ c) ∙ ap (λ y. (x *ℤ (b *ℤ c)) +ℤ y) (one_times (b *ℤ c)) in
     l ∙ ap (λ y. y +ℤ (b *ℤ c)) h ∙ sym r
 
-minus_times : (a : ℤ) → negsuc 0 *ℤ a ≡ neg_ℤ a
+pub minus_times : (a : ℤ) → negsuc 0 *ℤ a ≡ neg_ℤ a
 minus_times a = neg_left (pos 1) a ∙ ap neg_ℤ (one_times a)
 
 assoc_down : (b c x : ℤ) → (x *ℤ b) *ℤ c ≡ x *ℤ (b *ℤ c) → ((x -ℤ pos 1) *ℤ b) *ℤ c ≡ (x -ℤ pos 1) *ℤ (b *ℤ c)

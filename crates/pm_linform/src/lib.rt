@@ -10,7 +10,7 @@ ghost use Rattle.pm_linform.specs.Values as values;
 pub const VARIABLES: usize = 65;
 
 /// A linear form: a coefficient for each variable, and a constant. These are its entries.
-#[derive(Debug, Drop)]
+#[derive(Drop)]
 pub struct Form {
     coefficients: [i128; VARIABLES],
     constant: i128,
@@ -128,6 +128,3 @@ impl Form {
 pub fn sums_are_exact()
     ensures { values.SumsAreExact }
 {}
-
-#[cfg(test)]
-mod tests;

@@ -1,13 +1,11 @@
 -- What is scoped in some number of variables is scoped in more.
-use Rattle.std.proofs.Common.{ℕ, suc, ◌≤◌, List, [], ◌∷◌, arith}
+use Rattle.std.proofs.Common.{ℕ, ◌≤◌, List, [], ◌∷◌, arith}
 use Rattle.pm_logic.specs.declared.formula.Term.{Term}
 use Rattle.pm_logic.specs.declared.formula.Term.TheVariants.{Lit, Var}
 use Rattle.pm_logic.specs.declared.formula.Pure.{Pure}
 use Rattle.pm_logic.specs.declared.formula.Pure.TheVariants.{True, False, Eq, Le, Lt}
-use Rattle.pm_logic.specs.declared.formula.Formula.{Formula}
-use Rattle.pm_logic.specs.declared.formula.Formula.TheVariants.{Pure as Fact, Pts, Call}
-use Rattle.pm_logic.specs.Trees.{add, sub, neg, scale, both, either, nope, Sep, Wand, And, Or, Imp, All, Ex, Later, Pers, Upd}
-use Rattle.pm_logic.specs.Scope.{TermScoped, TermsScoped, PureScoped, ScopedIn}
+use Rattle.pm_logic.specs.Trees.{add, sub, neg, scale, both, either, nope}
+use Rattle.pm_logic.specs.Scope.{TermScoped, TermsScoped, PureScoped}
 
 pub term_grows : (k n : ℕ) (t : Term) → k ≤ n → TermScoped k t → TermScoped n t
 unfolding TermScoped
@@ -33,19 +31,3 @@ pure_grows k n (Lt s t) le h = (term_grows k n s le h.0, term_grows k n t le h.1
 pure_grows k n (both a b) le h = (pure_grows k n a le h.0, pure_grows k n b le h.1)
 pure_grows k n (either a b) le h = (pure_grows k n a le h.0, pure_grows k n b le h.1)
 pure_grows k n (nope a) le h = pure_grows k n a le h
-
-pub formula_grows : (k n : ℕ) (f : Formula) → k ≤ n → ScopedIn k f → ScopedIn n f
-unfolding ScopedIn
-formula_grows k n (Fact a) le h = pure_grows k n a le h
-formula_grows k n (Sep a b) le h = (formula_grows k n a le h.0, formula_grows k n b le h.1)
-formula_grows k n (Wand a b) le h = (formula_grows k n a le h.0, formula_grows k n b le h.1)
-formula_grows k n (And a b) le h = (formula_grows k n a le h.0, formula_grows k n b le h.1)
-formula_grows k n (Or a b) le h = (formula_grows k n a le h.0, formula_grows k n b le h.1)
-formula_grows k n (Imp a b) le h = (formula_grows k n a le h.0, formula_grows k n b le h.1)
-formula_grows k n (All a) le h = formula_grows (suc k) (suc n) a (omega arith) h
-formula_grows k n (Ex a) le h = formula_grows (suc k) (suc n) a (omega arith) h
-formula_grows k n (Later a) le h = formula_grows k n a le h
-formula_grows k n (Pers a) le h = formula_grows k n a le h
-formula_grows k n (Upd a) le h = formula_grows k n a le h
-formula_grows k n (Pts l u v) le h = (term_grows k n l le h.0, term_grows k n v le h.1)
-formula_grows k n (Call q args) le h = terms_grow k n args le h

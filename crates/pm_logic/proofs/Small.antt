@@ -1,20 +1,16 @@
 -- Terms within the bound, for callers.
-use Rattle.std.proofs.Common.{ℕ, ◌≤◌, List, [], ◌∷◌, arith}
+use Rattle.std.proofs.Common.{ℕ, ◌≤◌, [], ◌∷◌, arith}
 use Rattle.pm_logic.specs.declared.formula.Term.{Term}
 use Rattle.pm_logic.specs.declared.formula.Term.TheVariants.{Var}
 use Rattle.pm_logic.specs.declared.formula.TheConstants.{BOUND}
 use Rattle.pm_logic.specs.Bounds.{past_indices}
 use Rattle.pm_logic.specs.Scope.{TermScoped, TermsScoped}
-use Rattle.pm_logic.proofs.Grows.{term_grows, terms_grow}
+use Rattle.pm_logic.proofs.Grows.{term_grows}
 use Rattle.pm_logic.proofs.Scopes.{add_scoped}
 
 pub term_within : (k : ℕ) (t : Term) → k ≤ BOUND → TermScoped k t → TermScoped past_indices t
 unfolding past_indices
 term_within k t le h = term_grows k 1000000001 t (omega arith) h
-
-pub terms_within : (k : ℕ) (ts : List Term) → k ≤ BOUND → TermsScoped k ts → TermsScoped past_indices ts
-unfolding past_indices
-terms_within k ts le h = terms_grow k 1000000001 ts (omega arith) h
 
 pub two_terms : (i j : ℕ) → i ≤ BOUND → j ≤ BOUND → TermsScoped past_indices (Var i ∷ Var j ∷ [])
 unfolding TermsScoped TermScoped past_indices

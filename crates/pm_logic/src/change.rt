@@ -12,9 +12,9 @@ ghost use Rattle.pm_logic.specs.declared.change.Change.TheVariants.{Abstract};
 use crate::filling::Fill;
 use crate::formula::{Formula, Pure, Term};
 use crate::list::{List, Memory};
-use crate::node;
 use crate::raising::is_raised;
 use crate::replace::{index_at, replace};
+use crate::{building, node};
 use std::alloc::Global;
 
 /// What is done to the terms of a tree.
@@ -49,20 +49,20 @@ fn abstract_in(alloc: Global, s: &Term, d: u32, t: &Term) -> Result<Term, Memory
         Term::Add(a, b) => {
             let a = abstract_in(alloc, s, d, a.get())?;
             let b = abstract_in(alloc, s, d, b.get())?;
-            node::add(alloc, a, b)
+            building::add(alloc, a, b)
         }
         Term::Sub(a, b) => {
             let a = abstract_in(alloc, s, d, a.get())?;
             let b = abstract_in(alloc, s, d, b.get())?;
-            node::sub(alloc, a, b)
+            building::sub(alloc, a, b)
         }
         Term::Neg(a) => {
             let a = abstract_in(alloc, s, d, a.get())?;
-            node::neg(alloc, a)
+            building::neg(alloc, a)
         }
         Term::Scale(z, a) => {
             let a = abstract_in(alloc, s, d, a.get())?;
-            node::scale(alloc, *z, a)
+            building::scale(alloc, *z, a)
         }
     }
 }
@@ -137,7 +137,7 @@ pub fn change_pure(
         }
         Pure::Not(a) => {
             let a = change_pure(alloc, change, terms, d, a.get())?;
-            node::not(alloc, a)
+            building::pure_not(alloc, a)
         }
     }
 }

@@ -2,7 +2,7 @@
 
 use crate::list::List;
 use crate::name::Name;
-use sqlite_items::Boxed;
+use pm_shared::Shared;
 
 /// The units of a whole points-to: the least common multiple of 1 to 16.
 pub const UNIT: u32 = 720_720;
@@ -12,24 +12,22 @@ pub const UNIT: u32 = 720_720;
 pub const BOUND: u32 = 1_000_000_000;
 
 /// A term, whose value is an integer.
-#[derive(Debug)]
 pub enum Term {
     /// The integer itself.
     Lit(i64),
     /// The variable of this de Bruijn index, 0 the innermost.
     Var(u32),
     /// The first plus the second.
-    Add(Boxed<Term>, Boxed<Term>),
+    Add(Shared<Term>, Shared<Term>),
     /// The first minus the second.
-    Sub(Boxed<Term>, Boxed<Term>),
+    Sub(Shared<Term>, Shared<Term>),
     /// The term's value with the other sign.
-    Neg(Boxed<Term>),
+    Neg(Shared<Term>),
     /// The factor times the term.
-    Scale(i64, Boxed<Term>),
+    Scale(i64, Shared<Term>),
 }
 
 /// A formula about integers alone.
-#[derive(Debug)]
 pub enum Pure {
     True,
     False,
@@ -39,34 +37,33 @@ pub enum Pure {
     Le(Term, Term),
     /// The first value is below the second.
     Lt(Term, Term),
-    And(Boxed<Pure>, Boxed<Pure>),
-    Or(Boxed<Pure>, Boxed<Pure>),
-    Not(Boxed<Pure>),
+    And(Shared<Pure>, Shared<Pure>),
+    Or(Shared<Pure>, Shared<Pure>),
+    Not(Shared<Pure>),
 }
 
 /// A formula about resources.
-#[derive(Debug)]
 pub enum Formula {
     /// The pure formula holds.
     Pure(Pure),
     /// The resource has two parts, of which the first meets the first formula and the second the second.
-    Sep(Boxed<Formula>, Boxed<Formula>),
+    Sep(Shared<Formula>, Shared<Formula>),
     /// Together with any resource that meets the first formula it meets the second.
-    Wand(Boxed<Formula>, Boxed<Formula>),
-    And(Boxed<Formula>, Boxed<Formula>),
-    Or(Boxed<Formula>, Boxed<Formula>),
+    Wand(Shared<Formula>, Shared<Formula>),
+    And(Shared<Formula>, Shared<Formula>),
+    Or(Shared<Formula>, Shared<Formula>),
     /// Where a larger resource meets the first formula it meets the second.
-    Imp(Boxed<Formula>, Boxed<Formula>),
+    Imp(Shared<Formula>, Shared<Formula>),
     /// For every integer, which is index 0 in the part.
-    All(Boxed<Formula>),
+    All(Shared<Formula>),
     /// For some integer, which is index 0 in the part.
-    Ex(Boxed<Formula>),
+    Ex(Shared<Formula>),
     /// One step later.
-    Later(Boxed<Formula>),
+    Later(Shared<Formula>),
     /// By the resource's core.
-    Pers(Boxed<Formula>),
+    Pers(Shared<Formula>),
     /// After an update of the resource.
-    Upd(Boxed<Formula>),
+    Upd(Shared<Formula>),
     /// The location has at least this many units, 1 to `UNIT`, with the value.
     Pts { loc: Term, units: u32, val: Term },
     /// The body of the predicate in this place of the table, with these terms as its parameters.
@@ -74,7 +71,7 @@ pub enum Formula {
 }
 
 /// A predicate. Its body is scoped in its arity, and parameter `j`, counted from 0, is index `j`.
-#[derive(Debug, Drop)]
+#[derive(Drop)]
 pub struct Pred {
     pub name: Name,
     pub arity: u32,
@@ -82,7 +79,7 @@ pub struct Pred {
 }
 
 /// A table of predicates, which are named by their places from 0.
-#[derive(Debug, Drop)]
+#[derive(Drop)]
 pub struct Preds {
     pub list: List<Pred>,
 }

@@ -1,9 +1,11 @@
 //! The logic: lists, names, terms, formulas and predicates, and calls over them.
 #![tactic(auto)]
 
+mod building;
 mod change;
 mod classes;
 mod compare;
+mod copying;
 mod equality;
 mod filling;
 mod formula;
@@ -16,10 +18,13 @@ mod replace;
 mod scoping;
 mod size;
 mod substitution;
-#[cfg(test)]
-mod tests;
 
+pub use building::{
+    add, all, and, ex, imp, later, neg, or, pers, pure_and, pure_not, pure_or, scale, sep, sub,
+    upd, wand,
+};
 pub use classes::{persistent, timeless};
+pub use copying::{copy, copy_pure, copy_term};
 pub use equality::{same, same_pure, same_term};
 pub use formula::{BOUND, Formula, Pred, Preds, Pure, Term, UNIT};
 pub use guarding::guarded;
@@ -28,6 +33,6 @@ pub use name::{Name, copy_name};
 pub use scoping::scoped;
 pub use size::{depth, nodes, pure_depth, term_depth};
 pub use substitution::{
-    abstract_term, abstracted_opens, are_substitutions, copy, copy_pure, copy_term,
-    equality_is_tested, is_opened, is_shift, is_subst, opened, scope_is_kept, shift, subst,
+    abstract_term, abstracted_opens, are_substitutions, equality_is_tested, is_opened, is_shift,
+    is_subst, opened, scope_is_kept, shift, subst,
 };

@@ -5,9 +5,9 @@ ghost use Rattle.pm_logic.specs.Substitution.{raised_by};
 ghost use Rattle.pm_logic.specs.Scope.{TermScoped};
 ghost use Rattle.pm_logic.specs.Bounds.{past_indices};
 
+use crate::building;
 use crate::formula::{BOUND, Term};
 use crate::list::Memory;
-use crate::node;
 use std::alloc::Global;
 
 /// The term with each index `d` higher.
@@ -23,20 +23,20 @@ pub fn raise(alloc: Global, d: u32, t: &Term) -> Result<Term, Memory>
         Term::Add(a, b) => {
             let a = raise(alloc, d, a.get())?;
             let b = raise(alloc, d, b.get())?;
-            node::add(alloc, a, b)
+            building::add(alloc, a, b)
         }
         Term::Sub(a, b) => {
             let a = raise(alloc, d, a.get())?;
             let b = raise(alloc, d, b.get())?;
-            node::sub(alloc, a, b)
+            building::sub(alloc, a, b)
         }
         Term::Neg(a) => {
             let a = raise(alloc, d, a.get())?;
-            node::neg(alloc, a)
+            building::neg(alloc, a)
         }
         Term::Scale(z, a) => {
             let a = raise(alloc, d, a.get())?;
-            node::scale(alloc, *z, a)
+            building::scale(alloc, *z, a)
         }
     }
 }

@@ -7,10 +7,10 @@ ghost use Rattle.pm_logic.specs.Bounds.{past_indices};
 ghost use Rattle.pm_logic.specs.Walks.{first_of, filled, replaced, IndexFits, TermFits};
 ghost use Rattle.pm_logic.specs.declared.change.Change.TheVariants.{Replace};
 
+use crate::building;
 use crate::filling::Fill;
 use crate::formula::{BOUND, Term};
 use crate::list::Memory;
-use crate::node;
 use crate::raising::raise;
 use sqlite_items::at;
 use std::alloc::Global;
@@ -77,20 +77,20 @@ pub fn replace(alloc: Global, fill: Fill, terms: &[Term], d: u32, t: &Term) -> R
         Term::Add(a, b) => {
             let a = replace(alloc, fill, terms, d, a.get())?;
             let b = replace(alloc, fill, terms, d, b.get())?;
-            node::add(alloc, a, b)
+            building::add(alloc, a, b)
         }
         Term::Sub(a, b) => {
             let a = replace(alloc, fill, terms, d, a.get())?;
             let b = replace(alloc, fill, terms, d, b.get())?;
-            node::sub(alloc, a, b)
+            building::sub(alloc, a, b)
         }
         Term::Neg(a) => {
             let a = replace(alloc, fill, terms, d, a.get())?;
-            node::neg(alloc, a)
+            building::neg(alloc, a)
         }
         Term::Scale(z, a) => {
             let a = replace(alloc, fill, terms, d, a.get())?;
-            node::scale(alloc, *z, a)
+            building::scale(alloc, *z, a)
         }
     }
 }

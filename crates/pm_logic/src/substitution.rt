@@ -93,30 +93,6 @@ pub fn opened(alloc: Global, body: &Formula, t: &Term) -> Result<Formula, Memory
     )
 }
 
-/// The same formula once more.
-#[tactic(auto, using(crate::proofs::Substitutions::fillings))]
-pub fn copy(alloc: Global, f: &Formula) -> Result<Formula, Memory>
-    ensures { IfOk result (λ g. g ≡ f.now) }
-{
-    change_formula(alloc, Change::Replace(Fill::Itself), &[], 0, f)
-}
-
-/// The same term once more.
-#[tactic(auto, using(crate::proofs::Substitutions::fillings))]
-pub fn copy_term(alloc: Global, t: &Term) -> Result<Term, Memory>
-    ensures { IfOk result (λ u. u ≡ t.now) }
-{
-    change_term(alloc, Change::Replace(Fill::Itself), &[], 0, t)
-}
-
-/// The same pure formula once more.
-#[tactic(auto, using(crate::proofs::Substitutions::fillings))]
-pub fn copy_pure(alloc: Global, p: &Pure) -> Result<Pure, Memory>
-    ensures { IfOk result (λ q. q ≡ p.now) }
-{
-    change_pure(alloc, Change::Replace(Fill::Itself), &[], 0, p)
-}
-
 /// The body, one variable wider than `f`, in which every subterm equal to `s` is the new free index 0, and nothing
 /// else is. Under binders it is `s` with its indices raised by their number that counts. `f` is scoped in some
 /// number of variables that is, with its depth, at most `BOUND`, and no index of `s` is above `BOUND`.

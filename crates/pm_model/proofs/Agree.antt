@@ -1,5 +1,5 @@
 -- Which meanings of the bodies a formula looks at. So the bodies' meanings don't depend on how deep calls may go.
-use Rattle.std.proofs.Common.{◌≡◌, ℕ, zero, suc, ◌+◌, ◌*◌, ◌<◌, ◌≤◌, List, ◌∷◌, length, ℤ, ◌⊎◌, ◌↔◌, inl, inr, refl, le_refl, le_trans, mul-le-mul_right, arith}
+use Rattle.std.proofs.Common.{ℕ, zero, suc, ◌+◌, ◌*◌, ◌<◌, ◌≤◌, List, ◌∷◌, length, ℤ, ◌⊎◌, ◌↔◌, inl, inr, le_refl, le_trans, mul-le-mul_right, arith}
 use Rattle.pm_logic.specs.declared.formula.Formula.{Formula}
 use Rattle.pm_logic.specs.declared.formula.Formula.TheVariants.{Pure as Fact, Pts, Call}
 use Rattle.pm_logic.specs.declared.formula.Pred.{Pred}
@@ -7,7 +7,7 @@ use Rattle.pm_logic.specs.Trees.{Sep, Wand, And, Or, Imp, All, Ex, Later, Pers, 
 use Rattle.pm_logic.specs.Values.{evals}
 use Rattle.pm_logic.specs.Scope.{body_of}
 use Rattle.pm_model.specs.Resource.{Res, core}
-use Rattle.pm_model.specs.Forcing.{Bodies, Forced, AtStepBefore, bodies_to, bodies}
+use Rattle.pm_model.specs.Forcing.{Bodies, Forced, bodies_to, bodies}
 use Rattle.pm_model.proofs.Steps.{IsMonotone, forced_monotone}
 
 -- a smaller predicate at no greater step, or any predicate at a smaller step
@@ -27,10 +27,6 @@ lower_at all n b k m p le (inr h) = inr (le_trans h.0 le, h.1)
 lower_before : (all n b m p : ℕ) → IsLower all n all m p → IsLower all (suc n) b m p
 lower_before all n b m p (inl h) = inr (omega arith, h.1)
 lower_before all n b m p (inr h) = inr (omega arith, h.1)
-
-before_along : (n : ℕ) (c d : ℕ → Type 0) → ((i : ℕ) → n ≡ suc i → c i → d i) → AtStepBefore n c → AtStepBefore n d
-before_along zero c d f h = tt
-before_along (suc n) c d f h = f n refl h
 
 pub forced_along : (body other : Bodies) (all n b : ℕ) → Agrees body other all n b → (x : Formula) (env : List ℤ) (r : Res) → Forced body all x env n b r → Forced other all x env n b r
 forced_along body other all n b a (Fact c) env r h = h

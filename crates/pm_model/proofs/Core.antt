@@ -1,6 +1,6 @@
 -- The core is a part that adds nothing, is its own core, and grows with the resource.
-use Rattle.std.proofs.Common.{◌≡◌, ℤ, refl, sym, ◌∙◌, subst}
-use Rattle.pm_model.specs.Resource.{Res, Compatible, plus, Joins, Extends, nothing, core}
+use Rattle.std.proofs.Common.{◌≡◌, ℤ, refl, sym, ◌∙◌}
+use Rattle.pm_model.specs.Resource.{Res, Joins, Extends, nothing, core}
 use Rattle.pm_model.specs.Laws.{IsCore}
 use Rattle.pm_model.proofs.Joins.{compatible_empty, plus_empty, nothing_joins, extends_refl, extends_left}
 
@@ -22,14 +22,6 @@ pub core_extends : (r : Res) → Extends (core r) r
 core_extends r = extends_left (core_joins r)
 
 -- the core joins itself
-pub core_doubles : (r : Res) → Joins (core r) (core r) (core r)
-core_doubles r =
-    let j = core_joins (core r) in
-    record {
-      fits = λ l. subst (λ x. Compatible x ((core r).at l)) (core_twice r l) (j.fits l);
-      sums = λ l. subst (λ x. (core r).at l ≡ plus x ((core r).at l)) (core_twice r l) (j.sums l);
-    }
-
 -- the core of the core is no less
 pub core_within : (r : Res) → Extends (core r) (core (core r))
 unfolding nothing

@@ -95,9 +95,6 @@ nothing_joins a = record { fits = λ l. tt; sums = λ l. refl }
 pub extends_left : {a b c : Res} → Joins a b c → Extends a c
 extends_left {b = b} j = record { rest = b; joins = j }
 
-pub extends_right : {a b c : Res} → Joins a b c → Extends b c
-extends_right j = extends_left (joins_comm j)
-
 pub extends_refl : (a : Res) → Extends a a
 extends_refl a = extends_left (joins_nothing a)
 

@@ -143,9 +143,6 @@ flipped r = record {
   clash = λ k. clash_comm (r.clash (clash_comm k));
 }
 
-right_first : {a b done xs ys : List Cell} (x y : Cell) → y.loc <ℤ x.loc → Remains a b done (x ∷ xs) (y ∷ ys) → Remains a b (done ++ y ∷ []) (x ∷ xs) ys
-right_first x y lt r = flipped (left_first y x lt (flipped r))
-
 both_first : {a b done xs ys : List Cell} (x y z : Cell) → x.loc ≡ y.loc → z.loc ≡ x.loc → Compatible (content_of x) (content_of y) → content_of z ≡ plus (content_of x) (content_of y) → Remains a b done (x ∷ xs) (y ∷ ys) → Remains a b (done ++ z ∷ []) xs ys
 both_first {a} {b} {done} {xs} {ys} x y z same is fit sum r = record {
   left_heap = r.left_heap.2;

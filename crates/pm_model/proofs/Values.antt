@@ -17,7 +17,7 @@ use Rattle.pm_model.specs.Forcing.{Bodies, Forced, HasAtLeast, AtStepBefore}
 pub record Gives (f : Sub) (env vals : List ℤ) : Type 0 where
   pub at : (i : ℕ) → eval env (f i) ≡ entry vals i
 
-raised_value : (z : ℤ) (env : List ℤ) (t : Term) → eval (z ∷ env) (raised t) ≡ eval env t
+pub raised_value : (z : ℤ) (env : List ℤ) (t : Term) → eval (z ∷ env) (raised t) ≡ eval env t
 raised_value z env (Lit x) = refl
 raised_value z env (Var i) = refl
 raised_value z env (add s t) = ap₂ (λ x y. x +ℤ y) (raised_value z env s) (raised_value z env t)

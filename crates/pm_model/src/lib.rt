@@ -5,8 +5,6 @@ ghost use Rattle.pm_model.specs.Heap.{HeapLaws};
 ghost use Rattle.pm_model.specs.Laws.{BodiesAreForced, Bound, CoreLaws, IsTable, Monotone, Substitution};
 
 mod heap;
-#[cfg(test)]
-mod tests;
 
 pub use heap::{Cell, Heap, join};
 

@@ -6,6 +6,7 @@ ghost use Rattle.pm_terms.specs.Steps.{Gives};
 ghost use Rattle.pm_patterns.specs.PatternReading.{takes_goal, fact_in, entry_in, entries_in, cert_of, cert_in, quoted_cert};
 
 use crate::names::name_in;
+use crate::part::closed;
 use crate::pattern::{Cert, Item};
 use pm_logic::List;
 use pm_terms::{TextFault, behind, expect, literal, sees};
@@ -13,7 +14,7 @@ use pm_tokens::{Placed, Symbol};
 use std::alloc::Global;
 
 /// The part of a certificate that is read.
-#[derive(Debug, Drop)]
+#[derive(Drop)]
 pub struct Found {
     pub goal: Option<i64>,
     pub facts: List<Item>,
@@ -123,7 +124,7 @@ fn cert_in<'a>(
     Ok((cert_of(found), rest))
 }
 
-/// A certificate between quotes.
+/// A certificate between quotes. The faults are `Unexpected`, `Number` at a factor that is no 64-bit integer, and `Memory`.
 #[tactic(auto, unfolding(crate::specs::PatternReading::quoted_cert, crate::specs::PatternReading::quoted, pm_terms::specs::Steps::closed_by))]
 pub fn quoted_cert<'a>(
     alloc: Global,
@@ -134,6 +135,5 @@ pub fn quoted_cert<'a>(
 {
     let rest = expect(Symbol::Quote, stop, tokens)?;
     let (cert, rest) = cert_in(alloc, stop, rest)?;
-    let rest = expect(Symbol::Quote, stop, rest)?;
-    Ok((cert, rest))
+    closed(Symbol::Quote, stop, cert, rest)
 }

@@ -1,7 +1,7 @@
 //! How much of a pattern is read.
 
 /// A pattern, or those behind an ampersand.
-#[derive(Clone, Copy, Debug, PartialEq, Eq)]
+#[derive(Clone, Copy)]
 pub enum Extent {
     One,
     Others,

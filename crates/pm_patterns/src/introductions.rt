@@ -7,7 +7,7 @@ ghost use Rattle.pm_patterns.specs.PatternReading.{deep_name, behind_name, named
 
 use crate::extent::Extent;
 use crate::names::name_in;
-use crate::part::{Part, ReadList, quoted_list, some_behind, some_until};
+use crate::part::{Part, ReadList, closed, quoted_list, some_behind, some_until};
 use crate::pattern::Pat;
 use crate::patterns::{ReadPat, pair, pattern_in, quoted_pattern};
 use crate::signs::item_of;
@@ -67,7 +67,8 @@ fn named_pattern<'a>(alloc: Global, stop: usize, room: u32, tokens: &'a [Placed<
     }
 }
 
-/// A pattern between quotes, or names in parentheses and one.
+/// A pattern between quotes, or names in parentheses and one. The faults are `Unexpected`, `Deep` at a pattern or a name that
+/// stands in 200 patterns, and `Memory`.
 #[tactic(auto, unfolding(crate::specs::PatternReading::bound_pattern))]
 pub fn bound_pattern<'a>(alloc: Global, stop: usize, tokens: &'a [Placed<'a>]) -> ReadPat<'a>
     ensures { Gives (λ x. (x.0, places x.1.now)) result (bound_pattern stop (places tokens.now)) }
@@ -103,8 +104,7 @@ fn clear_or_pattern<'a>(alloc: Global, stop: usize, tokens: &'a [Placed<'a>]) ->
         return pattern_in(alloc, stop, 200, Extent::One, tokens);
     }
     let (sels, rest) = some_until(alloc, stop, Symbol::CloseBrace, behind(tokens))?;
-    let rest = expect(Symbol::CloseBrace, stop, rest)?;
-    Ok((Pat::Clear(sels), rest))
+    closed(Symbol::CloseBrace, stop, Pat::Clear(sels), rest)
 }
 
 impl Part for Pat {
@@ -124,7 +124,8 @@ impl Part for Pat {
     }
 }
 
-/// The items of `iIntros` between quotes.
+/// The items of `iIntros` between quotes, one at least. The faults are `Unexpected`, `Deep` at a pattern that stands in 200
+/// others, and `Memory`.
 #[tactic(auto, unfolding(crate::specs::PatternReading::quoted_intros))]
 pub fn quoted_intros<'a>(alloc: Global, stop: usize, tokens: &'a [Placed<'a>]) -> ReadList<'a, Pat>
     ensures { Gives (λ x. (x.0, places x.1.now)) result (quoted_intros stop (places tokens.now)) }
@@ -132,7 +133,7 @@ pub fn quoted_intros<'a>(alloc: Global, stop: usize, tokens: &'a [Placed<'a>]) -
     quoted_list(alloc, stop, tokens)
 }
 
-/// The same behind others.
+/// The same behind others, with the same faults.
 #[tactic(auto, unfolding(crate::specs::PatternReading::further_intros, crate::specs::PatternReading::quoted, pm_terms::specs::Steps::closed_by))]
 pub fn further_intros<'a>(
     alloc: Global,
@@ -144,6 +145,5 @@ pub fn further_intros<'a>(
 {
     let rest = expect(Symbol::Quote, stop, tokens)?;
     let (items, rest) = some_behind(alloc, stop, Symbol::Quote, found, rest)?;
-    let rest = expect(Symbol::Quote, stop, rest)?;
-    Ok((items, rest))
+    closed(Symbol::Quote, stop, items, rest)
 }

@@ -6,7 +6,7 @@ ghost use Rattle.pm_tokens.specs.Tokens.{places};
 ghost use Rattle.pm_terms.specs.Steps.{Gives};
 ghost use Rattle.pm_patterns.specs.PatternReading.{name_in, quoted_name, quoted_names, grouped_names, sel_in, quoted_sels, next_sel};
 
-use crate::part::{Part, ReadList, quoted_list, some_until};
+use crate::part::{Part, ReadList, closed, quoted_list, some_until};
 use crate::pattern::Sel;
 use crate::signs::sel_of;
 use pm_logic::Name;
@@ -17,7 +17,7 @@ use std::alloc::Global;
 /// A name, and the tokens behind it.
 pub type ReadName<'a> = Result<(Name, &'a [Placed<'a>]), TextFault>;
 
-/// A name.
+/// A name. The faults are `Unexpected` at a token that is none, and `Memory`.
 #[tactic(auto, unfolding(crate::specs::PatternReading::name_in))]
 pub fn name_in<'a>(alloc: Global, stop: usize, tokens: &'a [Placed<'a>]) -> ReadName<'a>
     ensures within { IfOk result (λ x. length x.1.now < length tokens.now) }
@@ -41,18 +41,17 @@ impl Part for Name {
     }
 }
 
-/// A name between quotes.
+/// A name between quotes. The faults are `Unexpected` and `Memory`.
 #[tactic(auto, unfolding(crate::specs::PatternReading::quoted_name, crate::specs::PatternReading::quoted, pm_terms::specs::Steps::closed_by))]
 pub fn quoted_name<'a>(alloc: Global, stop: usize, tokens: &'a [Placed<'a>]) -> ReadName<'a>
     ensures { Gives (λ x. (x.0, places x.1.now)) result (quoted_name stop (places tokens.now)) }
 {
     let rest = expect(Symbol::Quote, stop, tokens)?;
     let (name, rest) = name_in(alloc, stop, rest)?;
-    let rest = expect(Symbol::Quote, stop, rest)?;
-    Ok((name, rest))
+    closed(Symbol::Quote, stop, name, rest)
 }
 
-/// Names between quotes.
+/// Names between quotes, one at least. The faults are `Unexpected` and `Memory`.
 #[tactic(auto, unfolding(crate::specs::PatternReading::quoted_names))]
 pub fn quoted_names<'a>(alloc: Global, stop: usize, tokens: &'a [Placed<'a>]) -> ReadList<'a, Name>
     ensures { Gives (λ x. (x.0, places x.1.now)) result (quoted_names stop (places tokens.now)) }
@@ -60,15 +59,14 @@ pub fn quoted_names<'a>(alloc: Global, stop: usize, tokens: &'a [Placed<'a>]) ->
     quoted_list(alloc, stop, tokens)
 }
 
-/// Names between parentheses.
+/// Names between parentheses, one at least. The faults are `Unexpected` and `Memory`.
 #[tactic(auto, unfolding(crate::specs::PatternReading::grouped_names, pm_terms::specs::Steps::closed_by))]
 pub fn grouped_names<'a>(alloc: Global, stop: usize, tokens: &'a [Placed<'a>]) -> ReadList<'a, Name>
     ensures { Gives (λ x. (x.0, places x.1.now)) result (grouped_names stop (places tokens.now)) }
 {
     let rest = expect(Symbol::Open, stop, tokens)?;
     let (names, rest) = some_until(alloc, stop, Symbol::Close, rest)?;
-    let rest = expect(Symbol::Close, stop, rest)?;
-    Ok((names, rest))
+    closed(Symbol::Close, stop, names, rest)
 }
 
 /// The selection that the next token alone is.
@@ -105,7 +103,7 @@ impl Part for Sel {
     }
 }
 
-/// Selections between quotes.
+/// Selections between quotes, one at least. The faults are `Unexpected` and `Memory`.
 #[tactic(auto, unfolding(crate::specs::PatternReading::quoted_sels))]
 pub fn quoted_sels<'a>(alloc: Global, stop: usize, tokens: &'a [Placed<'a>]) -> ReadList<'a, Sel>
     ensures { Gives (λ x. (x.0, places x.1.now)) result (quoted_sels stop (places tokens.now)) }

@@ -1,8 +1,8 @@
 //! Lists of parts.
 
-ghost use Rattle.std.specs.Prelude.{◌≡◌, ℕ, List, not, length};
+ghost use Rattle.std.specs.Prelude.{◌≡◌, ℕ, List, not, length, Ok};
 ghost use Rattle.pm_tokens.specs.Tokens.{Place, places};
-ghost use Rattle.pm_terms.specs.Steps.{Gives, Read, sees, parts};
+ghost use Rattle.pm_terms.specs.Steps.{Gives, Read, sees, parts, closed_by};
 ghost use Rattle.pm_patterns.specs.PatternReading.{behind, once, until, some_until, quoted};
 ghost use Rattle.pm_tokens.specs.declared.symbol.Symbol.TheVariants.{Quote};
 
@@ -13,6 +13,20 @@ use std::alloc::Global;
 
 /// Parts, and the tokens behind them.
 pub type ReadList<'a, T> = Result<(List<T>, &'a [Placed<'a>]), TextFault>;
+
+/// What is read, where this symbol stands behind it, and else the fault at what does.
+#[tactic(auto, unfolding(pm_terms::specs::Steps::closed_by))]
+pub fn closed<'a, T: Drop>(
+    symbol: Symbol,
+    stop: usize,
+    value: T,
+    tokens: &'a [Placed<'a>],
+) -> Result<(T, &'a [Placed<'a>]), TextFault>
+    ensures { Gives (λ x. (x.0, places x.1.now)) result (closed_by symbol stop (Ok (value, places tokens.now))) }
+{
+    let rest = expect(symbol, stop, tokens)?;
+    Ok((value, rest))
+}
 
 /// What may stand several times, one after another. `stop` is the offset in bytes at which the tokens end.
 pub trait Part: Drop {
@@ -131,6 +145,5 @@ pub fn quoted_list<'a, T: Part>(
 {
     let rest = expect(Symbol::Quote, stop, tokens)?;
     let (list, rest) = some_until(alloc, stop, Symbol::Quote, rest)?;
-    let rest = expect(Symbol::Quote, stop, rest)?;
-    Ok((list, rest))
+    closed(Symbol::Quote, stop, list, rest)
 }

@@ -4,7 +4,6 @@ use pm_logic::{List, Name, Term};
 use sqlite_items::Boxed;
 
 /// Hypotheses or facts that a directive is for.
-#[derive(Debug, Drop)]
 pub enum Sel {
     Name(Name),
     /// `%`: every fact.
@@ -16,14 +15,12 @@ pub enum Sel {
 }
 
 /// A spatial hypothesis for a premise, and whether it is framed there.
-#[derive(Debug, Drop)]
 pub struct Pick {
     pub framed: bool,
     pub name: Name,
 }
 
 /// A specialisation pattern: how a premise is met.
-#[derive(Debug, Drop)]
 pub enum Spat {
     /// By the hypothesis of this name.
     Name(Name),
@@ -39,14 +36,12 @@ pub enum Spat {
     Done,
 }
 
-#[derive(Debug, Drop)]
 pub enum Head {
     Hyp(Name),
     Lemma(Name),
 }
 
 /// A hypothesis or lemma, with terms for its quantifiers and patterns for its premises.
-#[derive(Debug, Drop)]
 pub struct ProofTerm {
     pub head: Head,
     pub terms: List<Term>,
@@ -54,21 +49,18 @@ pub struct ProofTerm {
 }
 
 /// A fact and its factor in a certificate.
-#[derive(Debug, Drop)]
 pub struct Item {
     pub factor: i64,
     pub fact: Name,
 }
 
 /// Factors that add up to a contradiction: of the negated goal, and of facts.
-#[derive(Debug, Drop)]
 pub struct Cert {
     pub goal: i64,
     pub facts: List<Item>,
 }
 
 /// An introduction pattern: what becomes of a hypothesis. From `ModIntro` on they stand at the top of `iIntros` alone.
-#[derive(Debug, Drop)]
 pub enum Pat {
     Name(Name),
     /// `?`
@@ -104,4 +96,89 @@ pub enum Pat {
     /// `**`
     AllsWands,
     Clear(List<Sel>),
+}
+
+// Written out, since a contract then sees one call where a value is let go, and not the layout of the pattern.
+
+impl Drop for Sel {
+    fn drop(self) {
+        match self {
+            Sel::Name(name) => drop(name),
+            Sel::Pures | Sel::Ints | Sel::Spats => {}
+        }
+    }
+}
+
+impl Drop for Pick {
+    fn drop(self) {
+        let Pick { framed: _, name } = self;
+        drop(name);
+    }
+}
+
+impl Drop for Spat {
+    fn drop(self) {
+        match self {
+            Spat::Name(name) => drop(name),
+            Spat::Goal(picks) => drop(picks),
+            Spat::Rest(names) => drop(names),
+            Spat::Persistent | Spat::Pure | Spat::Done => {}
+        }
+    }
+}
+
+impl Drop for Head {
+    fn drop(self) {
+        match self {
+            Head::Hyp(name) | Head::Lemma(name) => drop(name),
+        }
+    }
+}
+
+impl Drop for ProofTerm {
+    fn drop(self) {
+        let ProofTerm { head, terms, spats } = self;
+        drop(head);
+        drop(terms);
+        drop(spats);
+    }
+}
+
+impl Drop for Item {
+    fn drop(self) {
+        let Item { factor: _, fact } = self;
+        drop(fact);
+    }
+}
+
+impl Drop for Cert {
+    fn drop(self) {
+        let Cert { goal: _, facts } = self;
+        drop(facts);
+    }
+}
+
+impl Drop for Pat {
+    fn drop(self) {
+        match self {
+            Pat::Name(name) | Pat::PureName(name) => drop(name),
+            Pat::Pair(first, second) | Pat::Either(first, second) => {
+                drop(first);
+                drop(second);
+            }
+            Pat::Int(inner) | Pat::Spat(inner) | Pat::Elim(inner) => drop(inner),
+            Pat::Clear(sels) => drop(sels),
+            Pat::Fresh
+            | Pat::Drop
+            | Pat::Frame
+            | Pat::Absurd
+            | Pat::PureFresh
+            | Pat::Rewrite
+            | Pat::RewriteBack
+            | Pat::ModIntro
+            | Pat::Done
+            | Pat::Alls
+            | Pat::AllsWands => {}
+        }
+    }
 }

@@ -12,6 +12,7 @@ ghost use Rattle.pm_patterns.specs.PatternReading.{name_in};
 
 use crate::extent::Extent;
 use crate::names::name_in;
+use crate::part::closed;
 use crate::pattern::Pat;
 use crate::signs::{Nesting, PatternSign, pattern_sign, token_nesting};
 use pm_terms::{TextFault, behind, expect, offset, sees, unexpected};
@@ -127,8 +128,8 @@ fn second_pair<'a>(
     ensures { Gives (λ x. (x.0, places x.1.now)) result (closed_by CloseBracket stop (made (pair.Pair first) (pattern_in stop room One (places tokens.now)))) }
 {
     let (second, rest) = pattern_in(alloc, stop, room, Extent::One, tokens)?;
-    let rest = expect(Symbol::CloseBracket, stop, rest)?;
-    Ok((pair(alloc, first, second)?, rest))
+    let both = pair(alloc, first, second)?;
+    closed(Symbol::CloseBracket, stop, both, rest)
 }
 
 /// The same behind a bar.
@@ -144,8 +145,8 @@ fn second_either<'a>(
     ensures { Gives (λ x. (x.0, places x.1.now)) result (closed_by CloseBracket stop (made (pair.Either first) (pattern_in stop room One (places tokens.now)))) }
 {
     let (second, rest) = pattern_in(alloc, stop, room, Extent::One, tokens)?;
-    let rest = expect(Symbol::CloseBracket, stop, rest)?;
-    Ok((either(alloc, first, second)?, rest))
+    let both = either(alloc, first, second)?;
+    closed(Symbol::CloseBracket, stop, both, rest)
 }
 
 /// Behind the first pattern of a bracket.
@@ -199,8 +200,7 @@ fn group<'a>(alloc: Global, stop: usize, room: u32, tokens: &'a [Placed<'a>]) ->
     ensures { Gives (λ x. (x.0, places x.1.now)) result (closed_by Close stop (ampersand_at stop (pattern_in stop room) (places tokens.now))) }
 {
     let (inner, rest) = ampersand_at(alloc, stop, room, tokens)?;
-    let rest = expect(Symbol::Close, stop, rest)?;
-    Ok((inner, rest))
+    closed(Symbol::Close, stop, inner, rest)
 }
 
 /// A pattern in a box.
@@ -308,7 +308,7 @@ pub fn pattern_in<'a>(
     }
 }
 
-/// A pattern between quotes.
+/// A pattern between quotes. The faults are `Unexpected`, `Deep` at a pattern for which there is no room, and `Memory`.
 #[tactic(auto, unfolding(crate::specs::PatternReading::quoted_pattern, crate::specs::PatternReading::quoted, pm_terms::specs::Steps::closed_by))]
 pub fn quoted_pattern<'a>(
     alloc: Global,
@@ -320,6 +320,5 @@ pub fn quoted_pattern<'a>(
 {
     let rest = expect(Symbol::Quote, stop, tokens)?;
     let (inner, rest) = pattern_in(alloc, stop, room, Extent::One, rest)?;
-    let rest = expect(Symbol::Quote, stop, rest)?;
-    Ok((inner, rest))
+    closed(Symbol::Quote, stop, inner, rest)
 }

@@ -6,7 +6,7 @@ ghost use Rattle.pm_terms.specs.Steps.{Gives};
 ghost use Rattle.pm_patterns.specs.PatternReading.{pick_in, spatial_in, premise_in, premise, quoted_premise, spat_in, quoted_spats, next_premise};
 
 use crate::names::name_in;
-use crate::part::{Part, ReadList, quoted_list, until};
+use crate::part::{Part, ReadList, closed, quoted_list, until};
 use crate::pattern::{Pick, Spat};
 use crate::signs::premise_of;
 use pm_logic::List;
@@ -91,19 +91,17 @@ fn premise<'a>(alloc: Global, stop: usize, tokens: &'a [Placed<'a>]) -> ReadSpat
 {
     let rest = expect(Symbol::OpenBracket, stop, tokens)?;
     let (inner, rest) = premise_in(alloc, stop, rest)?;
-    let rest = expect(Symbol::CloseBracket, stop, rest)?;
-    Ok((inner, rest))
+    closed(Symbol::CloseBracket, stop, inner, rest)
 }
 
-/// A specialisation pattern in brackets and quotes.
+/// A specialisation pattern in brackets and quotes. The faults are `Unexpected` and `Memory`.
 #[tactic(auto, unfolding(crate::specs::PatternReading::quoted_premise, crate::specs::PatternReading::quoted, pm_terms::specs::Steps::closed_by))]
 pub fn quoted_premise<'a>(alloc: Global, stop: usize, tokens: &'a [Placed<'a>]) -> ReadSpat<'a>
     ensures { Gives (λ x. (x.0, places x.1.now)) result (quoted_premise stop (places tokens.now)) }
 {
     let rest = expect(Symbol::Quote, stop, tokens)?;
     let (inner, rest) = premise(alloc, stop, rest)?;
-    let rest = expect(Symbol::Quote, stop, rest)?;
-    Ok((inner, rest))
+    closed(Symbol::Quote, stop, inner, rest)
 }
 
 impl Part for Spat {
@@ -123,7 +121,7 @@ impl Part for Spat {
     }
 }
 
-/// Specialisation patterns between quotes.
+/// Specialisation patterns between quotes, one at least. The faults are `Unexpected` and `Memory`.
 #[tactic(auto, unfolding(crate::specs::PatternReading::quoted_spats))]
 pub fn quoted_spats<'a>(alloc: Global, stop: usize, tokens: &'a [Placed<'a>]) -> ReadList<'a, Spat>
     ensures { Gives (λ x. (x.0, places x.1.now)) result (quoted_spats stop (places tokens.now)) }

@@ -8,7 +8,7 @@ use crate::pattern::{Pat, Sel, Spat};
 use pm_tokens::{Symbol, Token};
 
 /// How a pattern begins.
-#[derive(Clone, Copy, Debug, PartialEq, Eq)]
+#[derive(Clone, Copy)]
 pub enum PatternSign {
     Name,
     Fresh,
@@ -25,7 +25,7 @@ pub enum PatternSign {
 }
 
 /// What a token is to the brackets and parentheses around an ampersand.
-#[derive(Clone, Copy, Debug, PartialEq, Eq)]
+#[derive(Clone, Copy)]
 pub enum Nesting {
     Opens,
     Closes,

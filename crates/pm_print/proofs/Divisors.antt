@@ -3,7 +3,7 @@ use Rattle.std.proofs.Common.{◌≡◌, ◌≢◌, ℕ, zero, suc, ◌/◌, ◌
 use Prim.Native.Nat.{◌∣◌}
 use Rattle.std.specs.Prelude.{◌==◌, ◌&&◌}
 use Rattle.std.specs.Int.{IsGcd}
-use Rattle.std.proofs.lemmas.Bool.{eqb-true, eq-eqb}
+use Rattle.std.proofs.lemmas.Bool.{eqb-true, eq-eqb, and_parts}
 use Rattle.std.proofs.Math.Nat.{eq-zero_of_zero-dvd}
 use Rattle.std.proofs.lemmas.Nat.Gcd.{le_of_dvd, dvd_of_mod-eq-zero, mod-eq-zero_of_dvd, le_from_IsGcd}
 use Rattle.pm_logic.specs.declared.formula.TheConstants.{UNIT}
@@ -24,10 +24,6 @@ unfolding greatest
 greatest_is p zero g some le here above = absurd (omega arith)
 greatest_is p (suc n) g some le here above = step p n g (p (suc n)) refl le here above (λ less. greatest_is p n g some less here above)
 
-both_true : (x y : Bool) → (x && y) ≡ true → (x ≡ true) × (y ≡ true)
-both_true true y e = (refl, e)
-both_true false y e = absurd cc
-
 pub positive : (a g : ℕ) → 0 < a → g ∣ a → 0 < g
 positive a zero some divides = let none = eq-zero_of_zero-dvd divides in omega arith
 positive a (suc g) some divides = omega arith
@@ -37,7 +33,7 @@ unfolding common_divisor
 divisor_is a b g some is =
     let more = positive a g some is.0 in
     greatest_is (λ n. a % n == 0 && b % n == 0) a g more (le_of_dvd some is.0) (rw (mod-eq-zero_of_dvd g is.0, mod-eq-zero_of_dvd g is.1) refl)
-    (λ d test. let p = both_true (a % d == 0) (b % d == 0) test in le_from_IsGcd a b g d is more (dvd_of_mod-eq-zero d (eqb-true _ _ p.0)) (dvd_of_mod-eq-zero d (eqb-true _ _ p.1)))
+    (λ d test. let p = and_parts (a % d == 0) (b % d == 0) test in le_from_IsGcd a b g d is more (dvd_of_mod-eq-zero d (eqb-true _ _ p.0)) (dvd_of_mod-eq-zero d (eqb-true _ _ p.1)))
 
 pub no_units : (u : ℕ) → u ≡ 0 → common_divisor u UNIT ≡ 0
 unfolding common_divisor greatest

@@ -8,8 +8,6 @@ mod print;
 mod pures;
 mod sign;
 mod terms;
-#[cfg(test)]
-mod tests;
 mod text;
 mod units;
 

@@ -6,6 +6,7 @@ use Rattle.std.specs.List.{list_all}
 use Rattle.std.specs.Str.{is_utf8, chars}
 use Rattle.std.proofs.lemmas.Bool.Decides.{nat_tests}
 use Rattle.std.proofs.lemmas.Str.{chars-nil, chars-encodes, char_from_byte, IsUtf8-from_is_utf8}
+use Rattle.std.proofs.lemmas.Bool.{and_parts}
 use Rattle.unicode_ident.proofs.Computing.{unicode_ident}
 use lib.Utf8.{encode, encodes}
 use Rattle.pm_tokens.specs.declared.symbol.Symbol.{Symbol}
@@ -127,13 +128,9 @@ pure_group ps p = record {
 
 -- ---- names, numbers and words
 
-pub both_true : (x y : Bool) → (x && y) ≡ true → (x ≡ true) × (y ≡ true)
-both_true true y e = (refl, e)
-both_true false y e = absurd cc
-
 identified : (w : List ℕ) → is_name w ≡ true → (is_utf8 w ≡ true) × (is_identifier (chars w) ≡ true)
 unfolding is_name
-identified w e = both_true _ _ (both_true _ _ e).0
+identified w e = and_parts _ _ (and_parts _ _ e).0
 
 name_some : (w : List ℕ) → is_name w ≡ true → 0 < length w
 unfolding is_identifier
@@ -158,7 +155,7 @@ name_first (b ∷ w) rest is =
     go (c ∷ cs) e i true is =
         let byte : b ≡ 42 = same_byte b 42 is in
         let same : c ≡ 42 = char_from_byte (b ∷ w) (encodes cs) c (sym e) (omega arith) (omega arith) ∙ byte in
-        let starts : starts_name c ≡ true = (both_true (starts_name c) (list_all continues_name cs) i).0 in
+        let starts : starts_name c ≡ true = (and_parts (starts_name c) (list_all continues_name cs) i).0 in
         let none : starts_name c ≡ false = ap starts_name same in
         absurd cc
 
@@ -174,7 +171,7 @@ digit_first n rest small = go (decimal n) (standing.decimal_spells n small)
   where
     go : (ds : List ℕ) → Spells n ds → begins_with is_asterisk (ds ++ rest) ≡ false
     go [] h = absurd (omega (arith, h.some))
-    go (d ∷ ds) h = let digit = (both_true (is_digit d) (list_all is_digit ds) h.digits).0 in grind (arith, nat_tests, digit)
+    go (d ∷ ds) h = let digit = (and_parts (is_digit d) (list_all is_digit ds) h.digits).0 in grind (arith, nat_tests, digit)
 
 -- a sign that stands before each digit does before a number
 before_number : (r : Symbol) (n : ℕ) (rest : List ℕ) → ((d : ℕ) (ds : List ℕ) → is_digit d ≡ true → Stands (sign r) (d ∷ ds)) → n < 2 ^ 64 → Stands (sign r) (decimal n ++ rest)
@@ -182,7 +179,7 @@ before_number r n rest stands small = go (decimal n) (standing.decimal_spells n 
   where
     go : (ds : List ℕ) → Spells n ds → Stands (sign r) (ds ++ rest)
     go [] h = absurd (omega (arith, h.some))
-    go (d ∷ ds) h = stands d (ds ++ rest) (both_true (is_digit d) (list_all is_digit ds) h.digits).0
+    go (d ∷ ds) h = stands d (ds ++ rest) (and_parts (is_digit d) (list_all is_digit ds) h.digits).0
 
 pub number_lexes : (n : ℕ) (ps : List Piece) → n < 2 ^ 64 → begins_with is_digit (text_of ps) ≡ false → Lexes ps → Lexes (token (number n) ∷ ps)
 number_lexes n ps small stop h = lexes_next (token (number n)) ps (standing.number_stands n (text_of ps) small stop) h

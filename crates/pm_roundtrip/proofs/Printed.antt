@@ -12,6 +12,7 @@ use Rattle.std.proofs.lemmas.List.{append-nil, length-map}
 use Rattle.std.proofs.lemmas.Option.{slice_get_within}
 use Rattle.std.proofs.lemmas.Str.{chars-IsAscii, is_utf8-from_IsUtf8, IsUtf8-from_ascii}
 use Rattle.std.proofs.lemmas.Str.Ascii.{IsAscii-cons}
+use Rattle.std.proofs.lemmas.Bool.{and_parts}
 use Rattle.unicode_ident.proofs.IdentLemmas.{is_xid_start-ascii, is_xid_continue-ascii}
 use Rattle.pm_logic.specs.declared.formula.Term.{Term}
 use Rattle.pm_logic.specs.declared.formula.Term.TheVariants.{Lit, Var}
@@ -36,7 +37,7 @@ use Rattle.pm_roundtrip.specs.PrintingLaws.{IsLexed, PrintingIsLexed}
 use Rattle.pm_roundtrip.proofs.LexedPieces.{Lexes, lexes_none}
 use Rattle.pm_roundtrip.proofs.Standing as sign_of
 use Rattle.pm_roundtrip.proofs.Standing.{IsPrefix, decimal_spells}
-use Rattle.pm_roundtrip.proofs.Parts.{both_true, Part, done, Link, empty, linked, linked_right, infix_link, comma_link, fraction_link, prefixed, levelled, pure_group, word_part, literal_part, negated, true_part, false_part, called}
+use Rattle.pm_roundtrip.proofs.Parts.{Part, done, Link, empty, linked, linked_right, infix_link, comma_link, fraction_link, prefixed, levelled, pure_group, word_part, literal_part, negated, true_part, false_part, called}
 
 -- each of these is a name
 abbrev pub Words : Names → Type 0
@@ -84,9 +85,9 @@ units_link u most = go (u == UNIT)
 digits_continue : (ds : List ℕ) → list_all is_digit ds ≡ true → list_all continues_name ds ≡ true
 digits_continue [] all = refl
 digits_continue (d ∷ ds) all =
-    let p = both_true (is_digit d) (list_all is_digit ds) all in
+    let p = and_parts (is_digit d) (list_all is_digit ds) all in
     let digit : is_in_range 48 57 d ≡ true = p.0 in
-    let small : d < 128 = (let h = (both_true (nat_le 48 d) (nat_le d 57) p.0).1 in grind (arith, nat_tests, h)) in
+    let small : d < 128 = (let h = (and_parts (nat_le 48 d) (nat_le d 57) p.0).1 in grind (arith, nat_tests, h)) in
     let goes : continues_name d ≡ true = rw (is_xid_continue-ascii d small, digit) refl in
     rw (goes) (digits_continue ds p.1)
 

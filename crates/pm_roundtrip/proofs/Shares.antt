@@ -4,10 +4,10 @@ use Rattle.std.specs.Prelude.{nat_le}
 use Rattle.std.proofs.Math.Nat.{mul-div_cancel, mul-mod_left}
 use Rattle.std.proofs.lemmas.Bool.Decides.{nat_tests}
 use Rattle.std.proofs.lemmas.Nat.{div-add-mod'}
+use Rattle.std.proofs.lemmas.Bool.{and_parts}
 use Rattle.pm_logic.specs.declared.formula.TheConstants.{UNIT}
 use Rattle.pm_text.specs.FormulaReading.{units_of, is_share}
 use Rattle.pm_print.specs.Printing.{greatest, common_divisor}
-use Rattle.pm_roundtrip.proofs.Parts.{both_true}
 
 -- the greatest number that passes does, if any does
 greatest_passes : (p : ℕ → Bool) (n : ℕ) → p 1 ≡ true → 1 ≤ n → (p (greatest p n) ≡ true) × (1 ≤ greatest p n)
@@ -37,7 +37,7 @@ unfolding common_divisor
 divisor a b some =
     let p : ℕ → Bool = λ n. a % n == 0 && b % n == 0 in
     let h = greatest_passes p a (rw (one_divides a, one_divides b) refl) some in
-    let both = both_true (a % greatest p a == 0) (b % greatest p a == 0) h.0 in
+    let both = and_parts (a % greatest p a == 0) (b % greatest p a == 0) h.0 in
     record { some = h.1; first = divided a (greatest p a) both.0; second = divided b (greatest p a) both.1 }
 
 -- n of d parts of a whole are u units

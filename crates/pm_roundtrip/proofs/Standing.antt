@@ -22,7 +22,8 @@ use Rattle.pm_tokens.specs.declared.symbol.Symbol.TheVariants as s
 use Rattle.pm_tokens.specs.Tokens.{name, number}
 use Rattle.pm_tokens.specs.Characters.{first_char, front_char, run, name_len, is_digit, number_behind, number_of}
 use Rattle.pm_tokens.specs.Modes.{started, after}
-use Rattle.pm_tokens.specs.Symbols.{row_at, longer, longest, symbol_at, symbols, keywords, keyword, lookup}
+use Rattle.pm_tokens.specs.Symbols.{row_at, longer, longest, symbol_at, symbols, keywords, keyword}
+use Rattle.pm_tokens.specs.Words.{lookup}
 use Rattle.pm_tokens.specs.Pieces.{is_quoted, begins_with, word, word_or_sign, first_piece}
 use Rattle.pm_tokens.specs.Spelling.{ends_name, ends_by, begins_otherwise}
 use Rattle.pm_tokens.proofs.Spelled.{first_char_is, names_are_read, numbers_are_read, symbols_are_read}

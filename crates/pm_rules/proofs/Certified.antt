@@ -7,10 +7,10 @@ use Rattle.pm_logic.specs.declared.formula.Pure.TheVariants.{True, False, Eq, Le
 use Rattle.pm_logic.specs.declared.formula.Formula.{Formula, the_lemmas as formula_lemmas}
 use Rattle.pm_logic.specs.declared.formula.Formula.TheVariants.{Pure as Fact}
 use Rattle.pm_logic.specs.declared.formula.TheConstants.{BOUND}
-use Rattle.pm_logic.specs.Scope.{TermScoped, PureScoped, ScopedIn}
+use Rattle.pm_logic.specs.Scope.{PureScoped, ScopedIn}
 use Rattle.pm_logic.specs.Size.{pure_depth, depth_of}
-use Rattle.pm_logic.specs.Trees.{add, sub, neg, scale, both, either, nope}
-use Rattle.pm_logic.specs.declared.formula.Term.TheVariants.{Lit, Var}
+use Rattle.pm_logic.specs.Trees.{both, either, nope}
+use Rattle.pm_logic.proofs.Grows.{pure_grows}
 use Rattle.pm_logic.proofs.Views.{view_both}
 use Rattle.pm_logic.proofs.Scopes.{pure_scoped_in_to}
 use Rattle.pm_logic.proofs.Sizes.{depth_pure}
@@ -55,28 +55,8 @@ shows_facts cs p g h = h.0
 
 -- ---- the scope
 
-more_term : (k m : ℕ) (t : Term) → k ≤ m → TermScoped k t → TermScoped m t
-unfolding TermScoped
-more_term k m (Lit z) le h = tt
-more_term k m (Var i) le h = omega arith
-more_term k m (add s t) le h = (more_term k m s le h.0, more_term k m t le h.1)
-more_term k m (sub s t) le h = (more_term k m s le h.0, more_term k m t le h.1)
-more_term k m (neg t) le h = more_term k m t le h
-more_term k m (scale z t) le h = more_term k m t le h
-
-more_pure : (k m : ℕ) (p : Pure) → k ≤ m → PureScoped k p → PureScoped m p
-unfolding PureScoped
-more_pure k m True le h = tt
-more_pure k m False le h = tt
-more_pure k m (Eq s t) le h = (more_term k m s le h.0, more_term k m t le h.1)
-more_pure k m (Le s t) le h = (more_term k m s le h.0, more_term k m t le h.1)
-more_pure k m (Lt s t) le h = (more_term k m s le h.0, more_term k m t le h.1)
-more_pure k m (both a b) le h = (more_pure k m a le h.0, more_pure k m b le h.1)
-more_pure k m (either a b) le h = (more_pure k m a le h.0, more_pure k m b le h.1)
-more_pure k m (nope a) le h = more_pure k m a le h
-
 pub scoped_fact : (k m : ℕ) (p : Pure) → ScopedIn k (Fact p) → k ≤ m → PureScoped m p
-scoped_fact k m p h le = more_pure k m p le (pure_scoped_in_to k p h)
+scoped_fact k m p h le = pure_grows k m p le (pure_scoped_in_to k p h)
 
 pub fact_depth : (p : Pure) → depth_of (Fact p) ≤ BOUND → pure_depth p < BOUND
 fact_depth p h = let e = depth_pure p in omega (arith, e)

@@ -15,12 +15,10 @@ use Rattle.pm_rules.specs.Sums.{AddsTerm, StrictAdded, FailingAdded, IsRoomy}
 use Rattle.pm_rules.specs.Certificates.{IsFirstFactor, facts_of, FactsAdded, step, HasRoom, IsTimes, Starts, Closing, Shows, StartsWithRoom}
 use Rattle.pm_rules.proofs.Adding.{HasEntries}
 use Rattle.pm_rules.proofs.Facts.{failing_eq}
+use Rattle.pm_rules.proofs.Terms.{zero_plus}
 use Rattle.pm_rules.proofs.Sums.{bare, strict, none, unit}
 
 -- ---- the negated conclusion
-
-zero_plus : (x y : ℤ) → y ≡ pos 0 → y +ℤ x ≡ x
-zero_plus x y e = omega (arith, ints)
 
 times : (c : ℤ) (t : Term) (z f : Form) → IsZero z → AddsTerm c t z f → IsTimes c t f
 times c t z f o h = record {

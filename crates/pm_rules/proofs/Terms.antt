@@ -12,7 +12,7 @@ use Rattle.pm_linform.specs.declared.Form.{Form}
 use Rattle.pm_linform.specs.Entries.{coefficient, room, IsAtMost, IsWithin, IsWithinTimes}
 use Rattle.pm_linform.specs.Sums.{IsZero, AddsVariable, AddsConstant, AddsScaled}
 use Rattle.pm_linform.proofs.Bounds.{word_room, word_times_room}
-use Rattle.pm_linform.proofs.Products.{one_times, neg_left}
+use Rattle.pm_linform.proofs.Products.{one_times, minus_times}
 use Rattle.pm_rules.specs.Linear.{coefficient_of, constant_of, HasSmallForm, IsSmall}
 use Rattle.pm_rules.specs.Sums.{IsFormOf, FormOf, IsMultiple, Kept}
 
@@ -70,9 +70,6 @@ add_is a b f g h d e s = record {
   coefficients = λ i. s.coefficients i ∙ ap₂ (λ x y. x +ℤ y) (d.coefficients i) (one_times (coefficient g i) ∙ e.coefficients i);
   constant = s.constant ∙ ap₂ (λ x y. x +ℤ y) d.constant (one_times g.constant ∙ e.constant);
 }
-
-minus_times : (a : ℤ) → negsuc 0 *ℤ a ≡ neg_ℤ a
-minus_times a = neg_left (pos 1) a ∙ ap neg_ℤ (one_times a)
 
 less : (x y z w : ℤ) → x ≡ y → z ≡ w → x +ℤ (negsuc 0 *ℤ z) ≡ y -ℤ w
 less x y z w d e = let m = minus_times z in omega (arith, ints)
@@ -143,7 +140,7 @@ no_scale z a h = along (view.Scale z a) (scale z a) None (view_scale z a) (λ s.
 
 -- ---- the leaves, and what is asked of sums
 
-zero_plus : (x y : ℤ) → y ≡ pos 0 → y +ℤ x ≡ x
+pub zero_plus : (x y : ℤ) → y ≡ pos 0 → y +ℤ x ≡ x
 zero_plus x y e = omega (arith, ints)
 
 pub lit_is : (z : ℤ) (f h : Form) → IsZero f → AddsConstant z f h → IsFormOf h (Lit z)
@@ -171,12 +168,6 @@ unfolding coefficient_of constant_of
 var_is i f h o s = record {
   coefficients = λ j. var_entry i j f h o s (eqb_tells i j);
   constant = s.constant ∙ o.constant;
-}
-
-pub multiple_is : (c : ℤ) (f z h : Form) → IsZero z → AddsScaled c f z h → IsMultiple c f h
-multiple_is c f z h o s = record {
-  coefficients = λ i. s.coefficients i ∙ zero_plus (c *ℤ coefficient f i) (coefficient z i) (o.coefficients i);
-  constant = s.constant ∙ zero_plus (c *ℤ f.constant) z.constant o.constant;
 }
 
 -- a small form, and a word times it, leave room for sums

@@ -15,8 +15,6 @@ mod quantifiers;
 mod rules;
 mod shapes;
 mod table;
-#[cfg(test)]
-mod tests;
 
 pub use conditions::premise_count;
 pub use judging::rule_ok;

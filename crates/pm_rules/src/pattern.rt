@@ -21,7 +21,7 @@ pub enum Binary {
 }
 
 /// A letter that stands for a formula.
-#[derive(Clone, Copy, Debug, PartialEq, Eq)]
+#[derive(Clone, Copy)]
 pub enum Letter {
     First,
     Second,
@@ -30,7 +30,7 @@ pub enum Letter {
 }
 
 /// A letter that stands for a pure formula.
-#[derive(Clone, Copy, Debug, PartialEq, Eq)]
+#[derive(Clone, Copy)]
 pub enum PureLetter {
     First,
     Second,

@@ -3,7 +3,6 @@
 use pm_logic::{Formula, List, Term};
 
 /// With `vars` variables, `left` entails `right`.
-#[derive(Debug, Drop)]
 pub struct Entail {
     pub vars: u32,
     pub left: Formula,
@@ -12,7 +11,6 @@ pub struct Entail {
 
 /// The rules, by the names of their rows in the table of `specs/Rows.antt`, with what a row takes besides its premises and
 /// its conclusion.
-#[derive(Debug, Drop)]
 pub enum Rule {
     Refl,
     Trans,
@@ -93,4 +91,94 @@ pub enum Rule {
 pub struct Unmet {
     pub rule: u8,
     pub condition: u8,
+}
+
+// Written out, since a contract then sees one call where a value is let go, and not the layout of the rule.
+
+impl Drop for Entail {
+    fn drop(self) {
+        let Entail {
+            vars: _,
+            left,
+            right,
+        } = self;
+        drop(left);
+        drop(right);
+    }
+}
+
+impl Drop for Rule {
+    fn drop(self) {
+        match self {
+            Rule::Inst { sigma } => drop(sigma),
+            Rule::AllE { t } | Rule::ExI { t } => drop(t),
+            Rule::Linear { first, second } => {
+                drop(first);
+                drop(second);
+            }
+            Rule::Rewrite { template } => drop(template),
+            Rule::Refl
+            | Rule::Trans
+            | Rule::True
+            | Rule::False
+            | Rule::AndL
+            | Rule::AndR
+            | Rule::AndI
+            | Rule::OrL
+            | Rule::OrR
+            | Rule::OrE
+            | Rule::ImpI
+            | Rule::ImpE
+            | Rule::AllI
+            | Rule::ExE
+            | Rule::SepMono
+            | Rule::SepComm
+            | Rule::SepAssocR
+            | Rule::SepAssocL
+            | Rule::SepUnit
+            | Rule::SepWeaken
+            | Rule::WandI
+            | Rule::WandE
+            | Rule::LaterMono
+            | Rule::LaterIntro
+            | Rule::Loeb
+            | Rule::LaterSep
+            | Rule::SepLater
+            | Rule::LaterAnd
+            | Rule::LaterOr
+            | Rule::LaterAll
+            | Rule::LaterEx
+            | Rule::PersMono
+            | Rule::PersElim
+            | Rule::PersIdem
+            | Rule::PersDup
+            | Rule::PersPure
+            | Rule::PersAnd
+            | Rule::PersOr
+            | Rule::PersAll
+            | Rule::PersEx
+            | Rule::PersLater
+            | Rule::LaterPers
+            | Rule::UpdMono
+            | Rule::UpdIntro
+            | Rule::UpdTrans
+            | Rule::UpdFrame
+            | Rule::UpdPure
+            | Rule::PureAnd
+            | Rule::AndPure
+            | Rule::PureOr
+            | Rule::OrPure
+            | Rule::Not
+            | Rule::Em
+            | Rule::PtsSplit
+            | Rule::PtsJoin
+            | Rule::PtsAgree
+            | Rule::PtsOver
+            | Rule::PtsWrite
+            | Rule::PtsNew
+            | Rule::Fold
+            | Rule::Unfold
+            | Rule::Timeless => {}
+        }
+    }
 }

@@ -8,7 +8,7 @@ use Rattle.pm_logic.specs.declared.formula.Pred.{Pred}
 use Rattle.pm_logic.specs.Size.{depth_of}
 use Rattle.pm_names.specs.Names.{is_name}
 use Rattle.pm_check.specs.declared.checked.Statement.{Statement}
-use Rattle.pm_check.specs.Kept.{NameSet, has_name, Adds}
+use Rattle.pm_name_sets.specs.Sets.{has, Adds}
 use Rattle.pm_derive.proofs.Lawful.{sides_are_grown}
 use Rattle.pm_derive.specs.declared.derivation.Derivation.{Derivation}
 use Rattle.pm_derive.specs.Sides.{IsProvedBy}
@@ -56,11 +56,6 @@ open_same (Some p) (Some o) k = refl
 open_same None (Some o) k = absurd k
 open_same (Some p) None k = absurd k
 
-pub none_kept : (p : Option Proof) (o : Option OpenProof) → p ≡ None → KeepsProofs p o → o ≡ None
-none_kept None None e k = refl
-none_kept (Some p) o e k = absurd cc
-none_kept None (Some o) e k = absurd k
-
 -- what is known of an open proof
 pub record IsOpen (r : Running) (s : State) (p : Proof) : Type 0 where
   pub o : OpenProof
@@ -74,24 +69,7 @@ is_opened r s p e k = go s.proof refl (subst (λ (q : Option Proof). KeepsProofs
     go None e k = absurd k
     go (Some o) e k = record { o = o; is = e; keeps = k }
 
--- ---- sets of names
-
-fresh : (is_new had : Bool) (old new : NameSet) (name : List ℕ) → is_new ≡ not had → had ≡ false → OnTrue is_new (Adds old new name) → Adds old new name
-fresh true had old new name e f h = h
-fresh false true old new name e f h = absurd cc
-fresh false false old new name e f h = absurd cc
-
-pub unused : (b : Bool) → ¬ IsTrue b → b ≡ false
-unused true n = absurd (n refl)
-unused false n = refl
-
 -- ---- predicates
-
--- no row: the name is new
-is_unused : (s : State) (name : List ℕ) (params : List (List ℕ)) (body : Formula) → predicate_rows s name params body None → ¬ IsTrue (is_used s name)
-is_unused s name params body (inl x) = absurd (let e = x.1 in cc)
-is_unused s name params body (inr (a, inl x)) = absurd (let e = x.1 in cc)
-is_unused s name params body (inr (a, inr (b, rest))) = b
 
 -- no row: not too many parameters
 few_params : (s : State) (name : List ℕ) (params : List (List ℕ)) (body : Formula) → predicate_rows s name params body None → length params ≤ 64
@@ -102,21 +80,19 @@ few_params s name params body (inr (a, inr (b, inr (c, inl x)))) = absurd (let e
 few_params s name params body (inr (a, inr (b, inr (c, inr (d, inl x))))) = absurd (let e = x.1 in cc)
 few_params s name params body (inr (a, inr (b, inr (c, inr (d, inr (e, rest)))))) = omega (arith, e)
 
-pub predicate_added : (old : Running) (list : List Pred) (names : NameSet) (s : State) (name : List ℕ) (params : List (List ℕ)) (body : Formula) (count arity : ℕ) (is_new : Bool)
+pub predicate_added : (old : Running) (list : List Pred) (names : List (List ℕ)) (s : State) (name : List ℕ) (params : List (List ℕ)) (body : Formula) (count arity : ℕ)
     → Keeps old s → IsSayable s (sentence.Predicate name params body) → count ≡ length params → arity ≡ min count 65
     → list ≡ old.preds.list ++ (record { name = name; arity = arity; body = body } ∷ [])
-    → is_new ≡ not (has_name old.names name) → OnTrue is_new (Adds old.names names name)
+    → Adds old.names names name
     → predicate_rows s name params body None
     → predicate_rows s name params body None × Keeps (record { preds = record { list = list }; names = names; lemmas = old.lemmas; derivation = old.derivation; proof = old.proof }) (with_predicate s name params body)
-predicate_added old list names s name params body count arity is_new k sayable counts arities lists new adds rows =
+predicate_added old list names s name params body count arity k sayable counts arities lists adds rows =
     let few = few_params s name params body rows in
-    let arity_is : arity ≡ length params = omega (arith, few, counts, arities) in
-    let had : has_name old.names name ≡ false = k.names_are name ∙ unused (is_used s name) (is_unused s name params body rows) in
-    let added : Adds old.names names name = fresh is_new (has_name old.names name) old.names names name new had adds in (
+    let arity_is : arity ≡ length params = omega (arith, few, counts, arities) in (
       rows,
       record {
         preds_are = lists ∙ ap₂ (λ (ps : List Pred) (n : ℕ). ps ++ (record { name = name; arity = n; body = body } ∷ [])) k.preds_are arity_is;
-        names_are = λ n. added.has n ∙ (ap (λ b. b || bytes_eq n name) (k.names_are n) ∙ sym (names_with_predicate s name params body n));
+        names_are = λ n. adds.has n ∙ (ap (λ b. b || bytes_eq n name) (k.names_are n) ∙ sym (names_with_predicate s name params body n));
         lemmas_are = k.lemmas_are;
         states = k.states;
         proof_is = k.proof_is;
@@ -154,28 +130,20 @@ qed_refused old new s p g d k e left is =
     let some : ¬ (op.o.goals ≡ []) = λ none. absurd (let f : g ∷ [] ≡ [] = goals ∙ none in cc) in
     refused_is [] (qed_rows s.proof) (qed_state s s.proof) new d Q3 is (subst (λ (o : Option OpenProof). qed_rows o (Some Q3)) (sym op.is) (inl (some, refl)))
 
-pub no_proof_refused : (old new : Running) (s : State) (d : Done) → Keeps old s → old.proof ≡ None → d ≡ done.Refused (refusal Q1 []) → IsAnswered [] (qed_rows s.proof) (qed_state s s.proof) new d
-no_proof_refused old new s d k e is =
-    let none = none_kept old.proof s.proof e k.proof_is in
-    refused_is [] (qed_rows s.proof) (qed_state s s.proof) new d Q1 is (subst (λ (o : Option OpenProof). qed_rows o (Some Q1)) (sym none) refl)
-
-pub qed_done : (old : Running) (s : State) (p : Proof) (place : ℕ) (names : NameSet) (derivation : Derivation) (lemmas : ℕ) (rest : Option Proof) (is_new : Bool)
+pub qed_done : (old : Running) (s : State) (p : Proof) (place : ℕ) (names : List (List ℕ)) (derivation : Derivation) (lemmas : ℕ) (rest : Option Proof)
     → Keeps old s → old.proof ≡ Some p → p.stage ≡ stage.Closed place → rest ≡ None → lemmas ≡ min (min (old.lemmas + 1) (2 ^ 64 - 1)) 10000
     → ((before : List Statement) → States old.derivation before → IsNew before p.name → States derivation (before ++ (record { name = p.name; formula = p.statement } ∷ [])))
-    → is_new ≡ not (has_name old.names p.name) → OnTrue is_new (Adds old.names names p.name)
+    → Adds old.names names p.name
     → qed_rows s.proof None × Keeps (record { preds = old.preds; names = names; lemmas = lemmas; derivation = derivation; proof = rest }) (qed_state s s.proof)
-qed_done old s p place names derivation lemmas rest is_new k e closed none count grows new adds =
+qed_done old s p place names derivation lemmas rest k e closed none count grows adds =
     let op = is_opened old s p e k in
     let goals : op.o.goals ≡ [] = sym op.keeps.goals_are ∙ ap goals_of closed in
     let facts = new_qed s op.o op.is k.sound in
-    let table : qed_rows s.proof None = subst (λ (o : Option OpenProof). qed_rows o None) (sym op.is) (inr ((λ some. some goals), refl)) in
-    let unused_name : is_used s op.o.name ≡ false = (open_provable s op.o op.is k.sound).new in
-    let had : has_name old.names p.name ≡ false = k.names_are p.name ∙ (ap (is_used s) op.keeps.name_is ∙ unused_name) in
-    let added : Adds old.names names p.name = fresh is_new (has_name old.names p.name) old.names names p.name new had adds in (
+    let table : qed_rows s.proof None = subst (λ (o : Option OpenProof). qed_rows o None) (sym op.is) (inr ((λ some. some goals), refl)) in (
       table,
       subst (λ (o : Option OpenProof). Keeps (record { preds = old.preds; names = names; lemmas = lemmas; derivation = derivation; proof = rest }) (qed_state s o)) (sym op.is) (record {
         preds_are = k.preds_are;
-        names_are = λ n. added.has n ∙ (ap₂ (λ b m. b || bytes_eq n m) (k.names_are n) op.keeps.name_is ∙ sym (names_proved s op.o n));
+        names_are = λ n. adds.has n ∙ (ap₂ (λ b m. b || bytes_eq n m) (k.names_are n) op.keeps.name_is ∙ sym (names_proved s op.o n));
         lemmas_are = let more = length-append s.lemmas (record { name = op.o.name; formula = op.o.statement } ∷ []) in let was = k.lemmas_are in omega (arith, count, more, was);
         states = subst (λ (l : Statement). States derivation (s.lemmas ++ (l ∷ []))) (ap₂ (λ (n : List ℕ) (f : Formula). record { name = n; formula = f }) op.keeps.name_is op.keeps.statement_is) (grows s.lemmas k.states (subst (IsNew s.lemmas) (sym op.keeps.name_is) facts.0));
         proof_is = subst (λ (q : Option Proof). KeepsProofs q None) (sym none) tt;
@@ -183,37 +151,7 @@ qed_done old s p place names derivation lemmas rest is_new k e closed none count
       }),
     )
 
--- what the derivation asks for
-pub record IsReady (p : Proof) (place : ℕ) : Type 0 where
-  pub proved : IsProvedBy p.statement p.count place
-  pub named : IsTrue (is_name p.name)
-  pub shallow : depth_of p.statement < 1000
-
-pub qed_ready : (old : Running) (s : State) (p : Proof) (place : ℕ) → Keeps old s → old.proof ≡ Some p → p.stage ≡ stage.Closed place → IsReady p place
-qed_ready old s p place k e closed =
-    let op = is_opened old s p e k in
-    let facts = new_qed s op.o op.is k.sound in
-    record {
-      proved = subst (StageFits p.statement p.count) closed op.keeps.fits;
-      named = subst (λ n. IsTrue (is_name n)) (sym op.keeps.name_is) facts.1;
-      shallow = let few : depth_of p.statement ≤ 200 = subst (λ f. depth_of f ≤ 200) (sym op.keeps.statement_is) facts.2 in omega (arith, few);
-    }
-
 -- ---- directives
-
-pub small_stage : (old : Running) (s : State) (p : Proof) → Keeps old s → old.proof ≡ Some p → StageIsSmall p.stage
-small_stage old s p k e = go p.stage (is_opened old s p e k).keeps.fits
-  where
-    go : (t : Stage) → StageFits p.statement p.count t → StageIsSmall t
-    go (stage.Left g) fits = (fits.few, fits.spatial)
-    go (stage.Closed place) fits = tt
-
-pub few_introduced : (old : Running) (s : State) (p : Proof) (d : Step) (t : Stage) → Keeps old s → old.proof ≡ Some p → StageStepped p.stage d (stepped.Moved t) → p.count ≤ 64
-few_introduced old s p d t k e moved = go p.stage (is_opened old s p e k).keeps.fits moved
-  where
-    go : (u : Stage) → StageFits p.statement p.count u → StageStepped u d (stepped.Moved t) → p.count ≤ 64
-    go (stage.Left g) fits moved = let few = fits.few in let is = fits.count_is in omega (arith, few, is)
-    go (stage.Closed place) fits moved = absurd cc
 
 module _ (old : Running) (s : State) (p : Proof) (d : Step) (k : Keeps old s) (e : old.proof ≡ Some p) where
   the_proof : IsOpen old s p
@@ -221,13 +159,6 @@ module _ (old : Running) (s : State) (p : Proof) (d : Step) (k : Keeps old s) (e
 
   abbrev o : OpenProof
   o = the_proof.o
-
-  pub directive_refused : (row : Row) → StageStepped p.stage d (stepped.Refused row) → directive_rows s.proof d (Some row)
-  directive_refused row r = subst (λ (x : Option OpenProof). directive_rows x d (Some row)) (sym the_proof.is) (go p.stage refl r)
-    where
-      go : (u : Stage) → p.stage ≡ u → StageStepped u d (stepped.Refused row) → goal_rows o.goals d (Some row)
-      go (stage.Left g) at r = subst (λ gs. goal_rows gs d (Some row)) (sym (ap goals_of at) ∙ the_proof.keeps.goals_are) r
-      go (stage.Closed place) at r = subst (λ gs. goal_rows gs d (Some row)) (sym (ap goals_of at) ∙ the_proof.keeps.goals_are) (let is : row ≡ Q9 = cc in ap Some is)
 
   pub directive_moved : (t : Stage) (count : ℕ) → count ≡ p.count + introduces d → StageStepped p.stage d (stepped.Moved t)
       → directive_rows s.proof d None × Keeps (record { preds = old.preds; names = old.names; lemmas = old.lemmas; derivation = old.derivation; proof = Some (record { name = p.name; statement = p.statement; count = count; stage = t }) }) (directive_state s s.proof d)
@@ -254,9 +185,6 @@ module _ (old : Running) (s : State) (p : Proof) (d : Step) (k : Keeps old s) (e
       fits : (u : Stage) → StageFits p.statement p.count u → StageStepped u d (stepped.Moved t) → StageFits p.statement (p.count + introduces d) t
       fits (stage.Left g) f m = m.fits p.statement p.count f
       fits (stage.Closed place) f m = absurd cc
-
-pub directive_none : (old : Running) (s : State) (d : Step) → Keeps old s → old.proof ≡ None → directive_rows s.proof d (Some Q1)
-directive_none old s d k e = subst (λ (x : Option OpenProof). directive_rows x d (Some Q1)) (sym (none_kept old.proof s.proof e k.proof_is)) refl
 
 -- ---- whole sentences
 

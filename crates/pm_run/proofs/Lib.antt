@@ -1,5 +1,4 @@
 pub mod Steppings
-pub mod Names
 pub mod RowTests
 pub mod Sounds
 pub mod OneRun

@@ -94,22 +94,11 @@ done_span old n span x new d e does = λ s k.
 
 -- ---- sentences one after another
 
-pub leads_first : (old : Running) (n : ℕ) (spans : List Span) → LeadsTo old n spans old n spans
-leads_first old n spans = λ s k. record { state = s; kept = k; leads = λ size left more o h. h }
-
 pub leads_on : (old : Running) (n : ℕ) (spans : List Span) (r : Running) (m : ℕ) (span : Span) (tail : List Span) (new : Running) → LeadsTo old n spans r m (span ∷ tail) → AtSpan r m span new None → LeadsTo old n spans new (m + 1) tail
 leads_on old n spans r m span tail new before turn = λ s k.
     let a = before s k in
     let b = turn a.state a.kept in
     record { state = b.state; kept = b.kept; leads = λ size left more o h. a.leads size left more o (b.leads size left (parts_of tail ++ more) o h) }
-
-pub stops_in : (old : Running) (n : ℕ) (spans : List Span) (r : Running) (m : ℕ) (span : Span) (tail : List Span) (new last : Running) (k : ℕ) (at : Stop) → LeadsTo old n spans r m (span ∷ tail) → AtSpan r m span new (Some at) → AtSpans old n spans last k (Some at)
-stops_in old n spans r m span tail new last k at before turn = λ s kept.
-    let a = before s kept in
-    λ size left more. a.leads size left more (outcome at) (turn a.state a.kept size left (parts_of tail ++ more))
-
-pub leads_kept : (old : Running) (n : ℕ) (spans : List Span) (r : Running) (m : ℕ) (left : List Span) → LeadsTo old n spans r m left → IsKept old → IsKept r
-leads_kept old n spans r m left before k = let a = before k.state k.kept in record { state = a.state; kept = a.kept }
 
 pub kept_behind : (r : Running) (n : ℕ) (span : Span) (new : Running) → IsKept r → AtSpan r n span new None → IsKept new
 kept_behind r n span new k turn = let b = turn k.state k.kept in record { state = b.state; kept = b.kept }

@@ -28,9 +28,6 @@ one_when (inr x) (inr y) rest = rest x.1 y.1
 both_are : {A : Type 0} {a b c : A} → a ≡ c → b ≡ c → a ≡ b
 both_are e f = e ∙ sym f
 
-one_large : (goal : Goal) (others : Table) (a b : Option Row) → when_large goal others a → when_large goal others b → (others a → others b → a ≡ b) → a ≡ b
-one_large goal others a b x y rest = one_when x y (λ x1 y1. one_when x1 y1 (λ x2 y2. one_when x2 y2 (λ x3 y3. one_when x3 y3 rest)))
-
 abbrev IsOne : Table → Type 0
 IsOne table = (a b : Option Row) → table a → table b → a ≡ b
 

@@ -47,18 +47,6 @@ or_other : (a b : Bool) → (a || b) ≡ false → b ≡ false
 or_other true b e = absurd (cc e)
 or_other false b e = e
 
-less_or_not : (n m : ℕ) → (n < m) ⊎ (m ≤ n)
-less_or_not n m = grind arith
-
-not_above : (n m : ℕ) → ¬ (n < m) → m ≤ n
-not_above n m never = elim (less_or_not n m) [ inl lt ↦ absurd (never lt) | inr le ↦ le ]
-
-not_below : (n m : ℕ) → ¬ (n ≤ m) → m < n
-not_below n m never = elim (less_or_not m n) [ inl lt ↦ lt | inr le ↦ absurd (never le) ]
-
-is_less : (n m : ℕ) → ¬ (¬ (n < m)) → n < m
-is_less n m never = elim (less_or_not n m) [ inl lt ↦ lt | inr le ↦ absurd (never (λ lt. omega arith)) ]
-
 same_tests : (a b : Bool) → (a ≡ true → b ≡ true) → (b ≡ true → a ≡ true) → a ≡ b
 same_tests true b to back = sym (to refl)
 same_tests false true to back = back refl
@@ -120,9 +108,6 @@ fit_end qs n fit few small = (let l : length (arities_of qs ++ n ∷ []) ≡ suc
 
 -- ---- states
 
-pub sound_start : IsSound start
-sound_start = record { table_begins = table_none [] (omega arith, tt); lemmas_over = tt; proof_sound = tt }
-
 closed_sound : (s : State) (o : Option OpenProof) → ¬ IsTrue (is_some o) → ProofIsSound s o
 closed_sound s None never = tt
 closed_sound s (Some p) never = absurd (never refl)
@@ -155,7 +140,7 @@ sound_predicate s name params body sound sayable rows =
     let below = none_when unused.1 in
     let few = none_when below.1 in
     let small = none_when few.1 in
-    with_defined s name params body sound sayable closed.0 unused.0 (are_below (length s.preds) body below.0) (not_below 64 (length s.preds) few.0) (not_above 64 (length params) small.0)
+    with_defined s name params body sound sayable closed.0 unused.0 (are_below (length s.preds) body below.0) (omega (arith, few.0)) (omega (arith, small.0))
 
 pub sound_lemma : (s : State) (name : List ℕ) (statement : Formula) → IsSound s → IsSayable s (sentence.Lemma name statement) → lemma_rows s name statement None → IsSound (opened s name statement)
 sound_lemma s name statement sound sayable rows =
@@ -221,9 +206,3 @@ names_proved s p n =
     ap (λ b. list_any (λ (q : Pred). bytes_eq q.name n) s.preds || b) (list_any-append (λ (l : Statement). bytes_eq l.name n) s.lemmas (record { name = p.name; formula = p.statement } ∷ []))
     ∙ or_last (list_any (λ (q : Pred). bytes_eq q.name n) s.preds) (list_any (λ (l : Statement). bytes_eq l.name n) s.lemmas) (bytes_eq p.name n)
     ∙ ap (λ b. is_used s n || b) (turned p.name n)
-
-pub names_opened : (s : State) (name : List ℕ) (statement : Formula) (n : List ℕ) → is_used (opened s name statement) n ≡ is_used s n
-names_opened s name statement n = refl
-
-pub names_with_proof : (s : State) (o : Option OpenProof) (n : List ℕ) → is_used (with_proof s o) n ≡ is_used s n
-names_with_proof s o n = refl

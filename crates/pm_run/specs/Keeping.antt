@@ -1,6 +1,5 @@
 -- What a running script keeps, against the state of its run.
 use Rattle.std.specs.Prelude.{◌≡◌, ℕ, ◌-◌, ◌^◌, min, ◌≤◌, Bool, false, IsTrue, is_some, List, [], ◌∷◌, ◌++◌, length, Option, Some, None, Result, Ok, Err}
-use Rattle.std.specs.HashSet.{HashSet}
 use Rattle.pm_logic.specs.declared.formula.Formula.{Formula}
 use Rattle.pm_logic.specs.declared.formula.Pred.{Pred}
 use Rattle.pm_logic.specs.declared.formula.Preds.{Preds}
@@ -10,7 +9,7 @@ use Rattle.pm_names.specs.Names.{is_name}
 use Rattle.pm_dtext.specs.Ranges.{InRange}
 use Rattle.pm_dtext.specs.Texts.{arities_of}
 use Rattle.pm_check.specs.declared.checked.Statement.{Statement}
-use Rattle.pm_check.specs.Kept.{has_name}
+use Rattle.pm_name_sets.specs.Sets.{has}
 use Rattle.pm_check.specs.Table.{BeginsTable}
 use Rattle.pm_derive.specs.Stating.{AreOver, States}
 use Rattle.pm_script.specs.declared.sentence.Sentence.{Sentence}
@@ -63,7 +62,7 @@ pub record IsSound (s : State) : Type 0 where
 
 pub record Keeps (r : Running) (s : State) : Type 0 where
   pub preds_are : r.preds.list ≡ s.preds
-  pub names_are : (name : List ℕ) → has_name r.names name ≡ is_used s name
+  pub names_are : (name : List ℕ) → has r.names name ≡ is_used s name
   pub lemmas_are : r.lemmas ≡ min (length s.lemmas) 10000
   pub states : States r.derivation s.lemmas
   pub proof_is : KeepsProofs r.proof s.proof

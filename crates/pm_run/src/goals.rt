@@ -116,21 +116,10 @@ pub fn large_row(goal: &Goal, others: Option<Row>) -> Option<Row>
 fn with_hyp(goal: Goal, name: Name, a: Formula, b: Formula) -> Result<Goal, Memory>
     ensures { IfOk result (λ new. new ≡ introduced goal name a b) }
 {
-    let Goal {
-        vars,
-        pures,
-        ints,
-        mut spats,
-        concl: _,
-    } = goal;
-    spats.push(Hyp { name, formula: a })?;
-    Ok(Goal {
-        vars,
-        pures,
-        ints,
-        spats,
-        concl: b,
-    })
+    let mut goal = goal;
+    goal.spats.push(Hyp { name, formula: a })?;
+    goal.concl = b;
+    Ok(goal)
 }
 
 /// Whether it is an implication that can't be introduced over these hypotheses.

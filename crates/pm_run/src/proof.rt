@@ -4,7 +4,7 @@ use pm_goal::Goal;
 use pm_logic::{Formula, Name};
 
 /// How far a proof is.
-#[derive(Debug, Drop)]
+#[derive(Drop)]
 pub enum Stage {
     /// This goal is left.
     Left(Goal),
@@ -13,7 +13,7 @@ pub enum Stage {
 }
 
 /// The lemma whose proof is open, how many hypotheses were introduced, and what is left.
-#[derive(Debug, Drop)]
+#[derive(Drop)]
 pub struct Proof {
     pub name: Name,
     pub statement: Formula,

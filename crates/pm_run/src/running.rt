@@ -1,8 +1,7 @@
 //! A script that is being run.
 
 ghost use Rattle.std.specs.Prelude.{◌≡◌, ◌≤◌, ◌<◌, ◌^◌, not, IfOk, IsTrue, length, is_some};
-ghost use Rattle.std.specs.Bool.{OnTrue};
-ghost use Rattle.pm_check.specs.Kept.{has_name, Adds};
+ghost use Rattle.pm_name_sets.specs.Sets.{has};
 ghost use Rattle.pm_run.specs.Rows.{refusal};
 ghost use Rattle.pm_run.specs.Runs.{start, opening};
 ghost use Rattle.pm_run.specs.Stepping.{HasOnlySpatial, step_view};
@@ -16,16 +15,16 @@ use crate::step::{Step, step_of};
 use pm_derive::Derivation;
 use pm_goal::Goal;
 use pm_logic::{Formula, List, Memory, Name, Pred, Preds, copy, copy_name, depth, guarded, nodes};
+use pm_name_sets::NameSet;
 use pm_script::{Directive, Sentence};
 use std::alloc::Global;
-use std::collections::HashSet;
 
 /// What has become of a script so far: its predicates, its proved lemmas, and the proof that is open.
 #[derive(Drop)]
 pub struct Running {
     pub preds: Preds,
     /// The names of predicates and proved lemmas.
-    pub names: HashSet<Vec<u8>>,
+    pub names: NameSet,
     /// How many lemmas are proved, up to the 10,000 that may be.
     pub lemmas: usize,
     pub derivation: Derivation,
@@ -54,16 +53,6 @@ fn refused(alloc: Global, row: Row, name: &Name) -> Result<Done, Memory>
     }
 }
 
-/// Adds a name to a set, and answers whether it is new.
-#[tactic(auto, using(crate::proofs::Names::added))]
-fn add_name(alloc: Global, names: &mut HashSet<Vec<u8>>, name: &Name) -> Result<bool, Memory>
-    ensures new { IfOk result (λ b. b ≡ not (has_name names.old name.now)) }
-    ensures added { IfOk result (λ b. OnTrue b (Adds names.old names.new name.now)) }
-{
-    let key = Vec::from_slice(alloc, name.bytes())?;
-    Ok(names.insert(key)?)
-}
-
 /// The goal that a lemma opens with.
 fn opening(alloc: Global, statement: &Formula) -> Result<Goal, Memory>
     ensures { IfOk result (λ goal. goal ≡ opening statement.now) }
@@ -87,7 +76,7 @@ impl Running {
             preds: Preds {
                 list: List::new(alloc),
             },
-            names: HashSet::new(alloc),
+            names: NameSet::new(alloc),
             lemmas: 0,
             derivation: Derivation::new(alloc),
             proof: None,
@@ -101,7 +90,7 @@ impl Running {
     }
 
     fn is_used(&self, name: &Name) -> bool
-        ensures { result ≡ has_name self.now.names name.now }
+        ensures { result ≡ has self.now.names name.now }
     {
         self.names.contains(name.bytes())
     }
@@ -143,7 +132,7 @@ impl Running {
         match self.predicate_row(used, count, all, deepest) {
             Some(row) => refused(alloc, row, &label),
             None => {
-                add_name(alloc, &mut self.names, &label)?;
+                self.names.insert(alloc, label.bytes())?;
                 Ok(Done::Moved)
             }
         }
@@ -212,7 +201,7 @@ impl Running {
             Stage::Closed(place) => {
                 self.derivation
                     .lemma(alloc, &proof.name, &proof.statement, proof.count, place)?;
-                add_name(alloc, &mut self.names, &proof.name)?;
+                self.names.insert(alloc, proof.name.bytes())?;
                 self.lemmas = self.lemmas.saturating_add(1).min(10_000);
                 Ok(Done::Moved)
             }

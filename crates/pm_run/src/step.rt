@@ -9,7 +9,7 @@ use pm_patterns::Pat;
 use pm_script::Directive;
 
 /// A directive that is built, about a name.
-#[derive(Clone, Copy, Debug)]
+#[derive(Clone, Copy)]
 pub enum Step<'a> {
     Intro(&'a Name),
     Exact(&'a Name),

@@ -1,22 +1,16 @@
 -- The words that sentences begin with.
-use Rattle.std.specs.Prelude.{ℕ, if◌then◌else◌, List, [], ◌∷◌, codes, Option, Some, None}
-use Rattle.std.specs.Str.{bytes_eq}
+use Rattle.std.specs.Prelude.{ℕ, List, [], ◌∷◌, codes, Option}
 use lib.Utf8.{encodes}
 use Prim.Native.String.{String}
+use Rattle.pm_tokens.specs.Words.{lookup}
 use Rattle.pm_script.specs.declared.words.Form.{Form}
 use Rattle.pm_script.specs.declared.words.Form.TheVariants as form
-use Rattle.pm_script.specs.declared.words.PlainForm.{PlainForm}
 use Rattle.pm_script.specs.declared.words.PlainForm.TheVariants as plain_form
 use Rattle.pm_script.specs.declared.words.SentenceForm.{SentenceForm}
 use Rattle.pm_script.specs.declared.words.SentenceForm.TheVariants as sentence
 
 abbrev pub bytes : String → List ℕ
 bytes word = encodes (codes word)
-
--- what stands beside a word
-unfoldable pub row_of : {A : Type 0} → List (List ℕ × A) → List ℕ → Option A
-row_of [] w = None
-row_of (r ∷ rows) w = if bytes_eq w r.0 then Some r.1 else row_of rows w
 
 unfoldable pub sentence_words : List (List ℕ × SentenceForm)
 sentence_words =
@@ -69,7 +63,7 @@ directive_words =
     []
 
 unfoldable pub sentence_form_of : List ℕ → Option SentenceForm
-sentence_form_of w = row_of sentence_words w
+sentence_form_of w = lookup sentence_words w
 
 unfoldable pub form_of : List ℕ → Option Form
-form_of w = row_of directive_words w
+form_of w = lookup directive_words w

@@ -1,8 +1,10 @@
 //! Directives, behind their first word.
 
 ghost use Rattle.pm_tokens.specs.Tokens.{places};
-ghost use Rattle.pm_terms.specs.Steps.{Gives};
+ghost use Rattle.pm_terms.specs.Steps.{Gives, made};
+ghost use Rattle.pm_patterns.specs.PatternReading.{quoted_name, quoted_names, quoted_sels};
 ghost use Rattle.pm_text.specs.Parts.{table};
+ghost use Rattle.pm_script.specs.declared.directive.Directive.TheVariants as d;
 ghost use Rattle.pm_script.specs.SentenceReading as spec;
 
 use crate::directive::Directive;
@@ -14,9 +16,10 @@ use crate::proof_terms::{proof_term, some_terms};
 use crate::trees::{ReadIn, formula_tree, operand_tree, pure_tree};
 use crate::words::{Form, PlainForm};
 use pm_logic::{Formula, Pure};
-use pm_patterns::{quoted_name, quoted_sels};
+use pm_patterns::{closed, quoted_name, quoted_sels};
 use pm_terms::{Context, expect};
 use pm_tokens::{Placed, Symbol};
+use std::alloc::Global;
 
 /// A directive with the offset of its first tree that is too deep, and the tokens behind it.
 pub type ReadDirective<'a> = ReadIn<'a, Directive>;
@@ -24,29 +27,27 @@ pub type ReadDirective<'a> = ReadIn<'a, Directive>;
 /// A formula in parentheses.
 #[tactic(auto, unfolding(crate::specs::SentenceReading::grouped_formula, pm_terms::specs::Steps::closed_by))]
 fn grouped_formula<'a>(context: &Context<'_>, tokens: &'a [Placed<'a>]) -> ReadIn<'a, Formula>
-    ensures { Gives (λ x. (x.0, places x.1.now)) result (spec.grouped_formula context.now.stop (table context.now) context.now.vars.now (places tokens.now)) }
+    ensures { Gives (λ x. (x.0, places x.1.now)) result (spec.grouped_formula context.now.stop (table context.now) context.now.vars (places tokens.now)) }
 {
     let rest = expect(Symbol::Open, context.stop, tokens)?;
     let (tree, rest) = formula_tree(context, rest)?;
-    let rest = expect(Symbol::Close, context.stop, rest)?;
-    Ok((tree, rest))
+    closed(Symbol::Close, context.stop, tree, rest)
 }
 
 /// A pure formula in parentheses.
 #[tactic(auto, unfolding(crate::specs::SentenceReading::grouped_pure, pm_terms::specs::Steps::closed_by))]
 fn grouped_pure<'a>(context: &Context<'_>, tokens: &'a [Placed<'a>]) -> ReadIn<'a, Pure>
-    ensures { Gives (λ x. (x.0, places x.1.now)) result (spec.grouped_pure context.now.stop (table context.now) context.now.vars.now (places tokens.now)) }
+    ensures { Gives (λ x. (x.0, places x.1.now)) result (spec.grouped_pure context.now.stop (table context.now) context.now.vars (places tokens.now)) }
 {
     let rest = expect(Symbol::Open, context.stop, tokens)?;
     let (tree, rest) = pure_tree(context, rest)?;
-    let rest = expect(Symbol::Close, context.stop, rest)?;
-    Ok((tree, rest))
+    closed(Symbol::Close, context.stop, tree, rest)
 }
 
 /// Behind `iDestruct`.
 #[tactic(auto, unfolding(crate::specs::SentenceReading::destruct))]
 fn destruct<'a>(context: &Context<'_>, tokens: &'a [Placed<'a>]) -> ReadDirective<'a>
-    ensures { Gives (λ x. (x.0, places x.1.now)) result (spec.destruct context.now.stop (table context.now) context.now.vars.now (places tokens.now)) }
+    ensures { Gives (λ x. (x.0, places x.1.now)) result (spec.destruct context.now.stop (table context.now) context.now.vars (places tokens.now)) }
 {
     let ((proof, deep), rest) = proof_term(context, true, tokens)?;
     let (pat, rest) = as_bound(context.alloc, context.stop, rest)?;
@@ -56,7 +57,7 @@ fn destruct<'a>(context: &Context<'_>, tokens: &'a [Placed<'a>]) -> ReadDirectiv
 /// Behind `iPoseProof`.
 #[tactic(auto, unfolding(crate::specs::SentenceReading::pose_proof))]
 fn pose_proof<'a>(context: &Context<'_>, tokens: &'a [Placed<'a>]) -> ReadDirective<'a>
-    ensures { Gives (λ x. (x.0, places x.1.now)) result (spec.pose_proof context.now.stop (table context.now) context.now.vars.now (places tokens.now)) }
+    ensures { Gives (λ x. (x.0, places x.1.now)) result (spec.pose_proof context.now.stop (table context.now) context.now.vars (places tokens.now)) }
 {
     let ((proof, deep), rest) = proof_term(context, true, tokens)?;
     let (pat, rest) = as_pattern(context.alloc, context.stop, 200, rest)?;
@@ -66,7 +67,7 @@ fn pose_proof<'a>(context: &Context<'_>, tokens: &'a [Placed<'a>]) -> ReadDirect
 /// Behind `iMod`.
 #[tactic(auto, unfolding(crate::specs::SentenceReading::eliminate))]
 fn eliminate<'a>(context: &Context<'_>, tokens: &'a [Placed<'a>]) -> ReadDirective<'a>
-    ensures { Gives (λ x. (x.0, places x.1.now)) result (spec.eliminate context.now.stop (table context.now) context.now.vars.now (places tokens.now)) }
+    ensures { Gives (λ x. (x.0, places x.1.now)) result (spec.eliminate context.now.stop (table context.now) context.now.vars (places tokens.now)) }
 {
     let ((proof, deep), rest) = proof_term(context, true, tokens)?;
     let (pat, rest) = as_pattern(context.alloc, context.stop, 199, rest)?;
@@ -76,7 +77,7 @@ fn eliminate<'a>(context: &Context<'_>, tokens: &'a [Placed<'a>]) -> ReadDirecti
 /// Behind `iSpecialize`.
 #[tactic(auto, unfolding(crate::specs::SentenceReading::specialize))]
 fn specialize<'a>(context: &Context<'_>, tokens: &'a [Placed<'a>]) -> ReadDirective<'a>
-    ensures { Gives (λ x. (x.0, places x.1.now)) result (spec.specialize context.now.stop (table context.now) context.now.vars.now (places tokens.now)) }
+    ensures { Gives (λ x. (x.0, places x.1.now)) result (spec.specialize context.now.stop (table context.now) context.now.vars (places tokens.now)) }
 {
     let ((proof, deep), rest) = proof_term(context, false, tokens)?;
     Ok(((Directive::Specialize(proof), deep), rest))
@@ -85,7 +86,7 @@ fn specialize<'a>(context: &Context<'_>, tokens: &'a [Placed<'a>]) -> ReadDirect
 /// Behind `iApply`.
 #[tactic(auto, unfolding(crate::specs::SentenceReading::apply))]
 fn apply<'a>(context: &Context<'_>, tokens: &'a [Placed<'a>]) -> ReadDirective<'a>
-    ensures { Gives (λ x. (x.0, places x.1.now)) result (spec.apply context.now.stop (table context.now) context.now.vars.now (places tokens.now)) }
+    ensures { Gives (λ x. (x.0, places x.1.now)) result (spec.apply context.now.stop (table context.now) context.now.vars (places tokens.now)) }
 {
     let ((proof, deep), rest) = proof_term(context, true, tokens)?;
     Ok(((Directive::Apply(proof), deep), rest))
@@ -94,7 +95,7 @@ fn apply<'a>(context: &Context<'_>, tokens: &'a [Placed<'a>]) -> ReadDirective<'
 /// Behind `iAssert`.
 #[tactic(auto, unfolding(crate::specs::SentenceReading::assert))]
 fn assert<'a>(context: &Context<'_>, tokens: &'a [Placed<'a>]) -> ReadDirective<'a>
-    ensures { Gives (λ x. (x.0, places x.1.now)) result (spec.assert context.now.stop (table context.now) context.now.vars.now (places tokens.now)) }
+    ensures { Gives (λ x. (x.0, places x.1.now)) result (spec.assert context.now.stop (table context.now) context.now.vars (places tokens.now)) }
 {
     let ((f, deep), rest) = grouped_formula(context, tokens)?;
     let ((how, pat), rest) = asserted(context.alloc, context.stop, rest)?;
@@ -104,7 +105,7 @@ fn assert<'a>(context: &Context<'_>, tokens: &'a [Placed<'a>]) -> ReadDirective<
 /// Behind `iExists`.
 #[tactic(auto, unfolding(crate::specs::SentenceReading::exists_in))]
 fn exists_in<'a>(context: &Context<'_>, tokens: &'a [Placed<'a>]) -> ReadDirective<'a>
-    ensures { Gives (λ x. (x.0, places x.1.now)) result (spec.exists_in context.now.stop (table context.now) context.now.vars.now (places tokens.now)) }
+    ensures { Gives (λ x. (x.0, places x.1.now)) result (spec.exists_in context.now.stop (table context.now) context.now.vars (places tokens.now)) }
 {
     let ((terms, deep), rest) = some_terms(context, tokens)?;
     Ok(((Directive::Exists(terms), deep), rest))
@@ -113,7 +114,7 @@ fn exists_in<'a>(context: &Context<'_>, tokens: &'a [Placed<'a>]) -> ReadDirecti
 /// Behind `iFold`.
 #[tactic(auto, unfolding(crate::specs::SentenceReading::fold))]
 fn fold<'a>(context: &Context<'_>, tokens: &'a [Placed<'a>]) -> ReadDirective<'a>
-    ensures { Gives (λ x. (x.0, places x.1.now)) result (spec.fold context.now.stop (table context.now) context.now.vars.now (places tokens.now)) }
+    ensures { Gives (λ x. (x.0, places x.1.now)) result (spec.fold context.now.stop (table context.now) context.now.vars (places tokens.now)) }
 {
     let ((f, deep), rest) = grouped_formula(context, tokens)?;
     let (name, rest) = in_name(context.alloc, context.stop, rest)?;
@@ -123,7 +124,7 @@ fn fold<'a>(context: &Context<'_>, tokens: &'a [Placed<'a>]) -> ReadDirective<'a
 /// Behind `iWrite`.
 #[tactic(auto, unfolding(crate::specs::SentenceReading::write))]
 fn write<'a>(context: &Context<'_>, tokens: &'a [Placed<'a>]) -> ReadDirective<'a>
-    ensures { Gives (λ x. (x.0, places x.1.now)) result (spec.write context.now.stop (table context.now) context.now.vars.now (places tokens.now)) }
+    ensures { Gives (λ x. (x.0, places x.1.now)) result (spec.write context.now.stop (table context.now) context.now.vars (places tokens.now)) }
 {
     let (name, rest) = quoted_name(context.alloc, context.stop, tokens)?;
     let ((value, deep), rest) = operand_tree(context, rest)?;
@@ -133,7 +134,7 @@ fn write<'a>(context: &Context<'_>, tokens: &'a [Placed<'a>]) -> ReadDirective<'
 /// Behind `iAlloc`.
 #[tactic(auto, unfolding(crate::specs::SentenceReading::alloc))]
 fn alloc<'a>(context: &Context<'_>, tokens: &'a [Placed<'a>]) -> ReadDirective<'a>
-    ensures { Gives (λ x. (x.0, places x.1.now)) result (spec.alloc context.now.stop (table context.now) context.now.vars.now (places tokens.now)) }
+    ensures { Gives (λ x. (x.0, places x.1.now)) result (spec.alloc context.now.stop (table context.now) context.now.vars (places tokens.now)) }
 {
     let ((value, deep), rest) = operand_tree(context, tokens)?;
     let ((name, pat), rest) = allocated(context.alloc, context.stop, rest)?;
@@ -143,11 +144,67 @@ fn alloc<'a>(context: &Context<'_>, tokens: &'a [Placed<'a>]) -> ReadDirective<'
 /// Behind `iCases`.
 #[tactic(auto, unfolding(crate::specs::SentenceReading::cases))]
 fn cases<'a>(context: &Context<'_>, tokens: &'a [Placed<'a>]) -> ReadDirective<'a>
-    ensures { Gives (λ x. (x.0, places x.1.now)) result (spec.cases context.now.stop (table context.now) context.now.vars.now (places tokens.now)) }
+    ensures { Gives (λ x. (x.0, places x.1.now)) result (spec.cases context.now.stop (table context.now) context.now.vars (places tokens.now)) }
 {
     let ((p, deep), rest) = grouped_pure(context, tokens)?;
     let (name, rest) = as_name(context.alloc, context.stop, rest)?;
     Ok(((Directive::Cases(p, name), deep), rest))
+}
+
+/// Behind `iSplitL`.
+fn split_left<'a>(alloc: Global, stop: usize, tokens: &'a [Placed<'a>]) -> ReadPlain<'a>
+    ensures { Gives (λ x. (x.0, places x.1.now)) result (made d.SplitL (spec.if_any stop (quoted_names stop) (places tokens.now))) }
+{
+    let (names, rest) = any_names(alloc, stop, tokens)?;
+    Ok((Directive::SplitL(names), rest))
+}
+
+/// Behind `iSplitR`.
+fn split_right<'a>(alloc: Global, stop: usize, tokens: &'a [Placed<'a>]) -> ReadPlain<'a>
+    ensures { Gives (λ x. (x.0, places x.1.now)) result (made d.SplitR (spec.if_any stop (quoted_names stop) (places tokens.now))) }
+{
+    let (names, rest) = any_names(alloc, stop, tokens)?;
+    Ok((Directive::SplitR(names), rest))
+}
+
+/// Behind `iExact`.
+fn exact<'a>(alloc: Global, stop: usize, tokens: &'a [Placed<'a>]) -> ReadPlain<'a>
+    ensures { Gives (λ x. (x.0, places x.1.now)) result (made d.Exact (quoted_name stop (places tokens.now))) }
+{
+    let (name, rest) = quoted_name(alloc, stop, tokens)?;
+    Ok((Directive::Exact(name), rest))
+}
+
+/// Behind `iClear`.
+fn clear<'a>(alloc: Global, stop: usize, tokens: &'a [Placed<'a>]) -> ReadPlain<'a>
+    ensures { Gives (λ x. (x.0, places x.1.now)) result (made d.Clear (quoted_sels stop (places tokens.now))) }
+{
+    let (sels, rest) = quoted_sels(alloc, stop, tokens)?;
+    Ok((Directive::Clear(sels), rest))
+}
+
+/// Behind `iFrame`.
+fn frame<'a>(alloc: Global, stop: usize, tokens: &'a [Placed<'a>]) -> ReadPlain<'a>
+    ensures { Gives (λ x. (x.0, places x.1.now)) result (made d.Frame (spec.if_any stop (quoted_sels stop) (places tokens.now))) }
+{
+    let (sels, rest) = any_sels(alloc, stop, tokens)?;
+    Ok((Directive::Frame(sels), rest))
+}
+
+/// Behind `iLöb`.
+fn loeb<'a>(alloc: Global, stop: usize, tokens: &'a [Placed<'a>]) -> ReadPlain<'a>
+    ensures { Gives (λ x. (x.0, places x.1.now)) result (made d.Loeb (spec.as_name stop (places tokens.now))) }
+{
+    let (name, rest) = as_name(alloc, stop, tokens)?;
+    Ok((Directive::Loeb(name), rest))
+}
+
+/// Behind `iUnfold`.
+fn unfold<'a>(alloc: Global, stop: usize, tokens: &'a [Placed<'a>]) -> ReadPlain<'a>
+    ensures { Gives (λ x. (x.0, places x.1.now)) result (made d.Unfold (spec.if_any stop (quoted_name stop) (places tokens.now))) }
+{
+    let (name, rest) = any_name(alloc, stop, tokens)?;
+    Ok((Directive::Unfold(name), rest))
 }
 
 /// A directive without trees, of this form, and none where the form has trees.
@@ -160,48 +217,39 @@ fn plain_in<'a>(context: &Context<'_>, form: PlainForm, tokens: &'a [Placed<'a>]
     match form {
         PlainForm::Intros => intros(alloc, stop, tokens),
         PlainForm::Split => Ok((Directive::Split, tokens)),
-        PlainForm::SplitL => {
-            let (names, rest) = any_names(alloc, stop, tokens)?;
-            Ok((Directive::SplitL(names), rest))
-        }
-        PlainForm::SplitR => {
-            let (names, rest) = any_names(alloc, stop, tokens)?;
-            Ok((Directive::SplitR(names), rest))
-        }
+        PlainForm::SplitL => split_left(alloc, stop, tokens),
+        PlainForm::SplitR => split_right(alloc, stop, tokens),
         PlainForm::Left => Ok((Directive::Left, tokens)),
         PlainForm::Right => Ok((Directive::Right, tokens)),
         PlainForm::Assumption => Ok((Directive::Assumption, tokens)),
         PlainForm::ExFalso => Ok((Directive::ExFalso, tokens)),
         PlainForm::Done => Ok((Directive::Done, tokens)),
-        PlainForm::Exact => {
-            let (name, rest) = quoted_name(alloc, stop, tokens)?;
-            Ok((Directive::Exact(name), rest))
-        }
-        PlainForm::Clear => {
-            let (sels, rest) = quoted_sels(alloc, stop, tokens)?;
-            Ok((Directive::Clear(sels), rest))
-        }
+        PlainForm::Exact => exact(alloc, stop, tokens),
+        PlainForm::Clear => clear(alloc, stop, tokens),
         PlainForm::Rename => rename(alloc, stop, tokens),
         PlainForm::Revert => revert(alloc, stop, tokens),
-        PlainForm::Frame => {
-            let (sels, rest) = any_sels(alloc, stop, tokens)?;
-            Ok((Directive::Frame(sels), rest))
-        }
+        PlainForm::Frame => frame(alloc, stop, tokens),
         PlainForm::ModIntro => Ok((Directive::ModIntro, tokens)),
         PlainForm::Next => Ok((Directive::Next, tokens)),
-        PlainForm::Loeb => {
-            let (name, rest) = as_name(alloc, stop, tokens)?;
-            Ok((Directive::Loeb(name), rest))
-        }
-        PlainForm::Unfold => {
-            let (name, rest) = any_name(alloc, stop, tokens)?;
-            Ok((Directive::Unfold(name), rest))
-        }
+        PlainForm::Loeb => loeb(alloc, stop, tokens),
+        PlainForm::Unfold => unfold(alloc, stop, tokens),
         PlainForm::Combine => combine(alloc, stop, tokens),
         PlainForm::PureIntro => Ok((Directive::PureIntro, tokens)),
         PlainForm::Rewrite => rewrite(alloc, stop, tokens),
         PlainForm::Linear => linear(alloc, stop, tokens),
     }
+}
+
+/// The same, with no tree that is too deep.
+fn without_trees<'a>(
+    context: &Context<'_>,
+    form: PlainForm,
+    tokens: &'a [Placed<'a>],
+) -> ReadDirective<'a>
+    ensures { Gives (λ x. (x.0, places x.1.now)) result (spec.plain (spec.plain_in context.now.stop form (places tokens.now))) }
+{
+    let (directive, rest) = plain_in(context, form, tokens)?;
+    Ok(((directive, None), rest))
 }
 
 /// The directive of this form, behind its first word.
@@ -211,13 +259,10 @@ pub fn directive_in<'a>(
     form: Form,
     tokens: &'a [Placed<'a>],
 ) -> ReadDirective<'a>
-    ensures { Gives (λ x. (x.0, places x.1.now)) result (spec.directive_in context.now.stop (table context.now) context.now.vars.now form (places tokens.now)) }
+    ensures { Gives (λ x. (x.0, places x.1.now)) result (spec.directive_in context.now.stop (table context.now) context.now.vars form (places tokens.now)) }
 {
     match form {
-        Form::Plain(form) => {
-            let (directive, rest) = plain_in(context, form, tokens)?;
-            Ok(((directive, None), rest))
-        }
+        Form::Plain(form) => without_trees(context, form, tokens),
         Form::Destruct => destruct(context, tokens),
         Form::PoseProof => pose_proof(context, tokens),
         Form::Mod => eliminate(context, tokens),

@@ -11,8 +11,6 @@ mod reading;
 mod sentence;
 mod statements;
 mod steps;
-#[cfg(test)]
-mod tests;
 mod trees;
 mod words;
 

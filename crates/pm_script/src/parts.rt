@@ -10,8 +10,8 @@ ghost use Rattle.pm_script.specs.SentenceReading as spec;
 use crate::steps::{expect_word, sees_word};
 use pm_logic::{List, Name};
 use pm_patterns::{
-    Head, Pat, Sel, Spat, bound_pattern, name_in, quoted_name, quoted_names, quoted_pattern,
-    quoted_premise, quoted_sels, quoted_spats,
+    Head, Pat, Sel, Spat, bound_pattern, closed, name_in, quoted_name, quoted_names,
+    quoted_pattern, quoted_premise, quoted_sels, quoted_spats,
 };
 use pm_terms::{TextFault, behind, expect, sees};
 use pm_tokens::{Placed, Symbol};
@@ -130,8 +130,7 @@ fn grouped_name<'a>(alloc: Global, stop: usize, tokens: &'a [Placed<'a>]) -> Rea
 {
     let rest = expect(Symbol::Open, stop, tokens)?;
     let (name, rest) = name_in(alloc, stop, rest)?;
-    let rest = expect(Symbol::Close, stop, rest)?;
-    Ok((name, rest))
+    closed(Symbol::Close, stop, name, rest)
 }
 
 /// `as ( x ) "pat"`.

@@ -12,7 +12,7 @@ use crate::parts::{Read, any_target, as_pattern, into_name};
 use crate::steps::expect_word;
 use pm_logic::{List, Memory, Name, copy_name};
 use pm_patterns::{
-    Cert, Pat, Sel, further_intros, grouped_names, name_in, quoted_cert, quoted_intros,
+    Cert, Pat, Sel, closed, further_intros, grouped_names, name_in, quoted_cert, quoted_intros,
     quoted_name, quoted_sels,
 };
 use pm_terms::{behind, expect, sees};
@@ -132,8 +132,7 @@ fn quoted_two<'a>(alloc: Global, stop: usize, tokens: &'a [Placed<'a>]) -> Read<
 {
     let rest = expect(Symbol::Quote, stop, tokens)?;
     let (both, rest) = two_names(alloc, stop, rest)?;
-    let rest = expect(Symbol::Quote, stop, rest)?;
-    Ok((both, rest))
+    closed(Symbol::Quote, stop, both, rest)
 }
 
 /// Behind `iCombine`.

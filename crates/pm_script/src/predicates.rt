@@ -1,8 +1,6 @@
 //! Predicates, behind their first word.
 
 ghost use Rattle.std.specs.Prelude.{◌≡◌, ◌+◌, ◌<◌, ◌≤◌, ◌^◌, length, IfOk};
-ghost use Rattle.std.specs.List.{list_any};
-ghost use Rattle.std.specs.Str.{bytes_eq};
 ghost use Rattle.pm_tokens.specs.declared.symbol.Symbol.TheVariants.{Comma, Open};
 ghost use Rattle.pm_tokens.specs.Tokens.{places};
 ghost use Rattle.pm_terms.specs.Steps.{Answers, Gives, expect, sees};
@@ -12,6 +10,7 @@ use crate::parts::Read;
 use crate::sentence::Sentence;
 use crate::trees::{ReadIn, formula_tree};
 use pm_logic::{Formula, List, Name};
+use pm_name_sets::{NameIndex, NameList};
 use pm_patterns::{ReadList, name_in};
 use pm_terms::{Context, Own, TextFault, behind, expect, sees, unexpected};
 use pm_tokens::{Placed, Symbol};
@@ -20,30 +19,18 @@ use std::alloc::Global;
 /// A sentence with the offset of its tree, where it is too deep, and the tokens behind it.
 pub type ReadSentence<'a> = ReadIn<'a, Sentence>;
 
-fn same_name(name: &[u8], other: &Name) -> bool
-    ensures { result ≡ bytes_eq name.now other.now }
-{
-    name == other.bytes()
-}
-
-fn is_among(name: &[u8], seen: &[Name]) -> bool
-    ensures { result ≡ list_any (bytes_eq name.now) seen.now }
-{
-    seen.iter().any(|other| same_name(name, other))
-}
-
 /// A name, or the fault at one that stands before.
 #[tactic(auto, unfolding(crate::specs::SentenceReading::param_in))]
 fn param_in<'a>(
     alloc: Global,
     stop: usize,
-    seen: &[Name],
+    seen: &NameList,
     tokens: &'a [Placed<'a>],
 ) -> Read<'a, Name>
     ensures { Gives (λ x. (x.0, places x.1.now)) result (spec.param_in stop seen.now (places tokens.now)) }
 {
     let (name, rest) = name_in(alloc, stop, tokens)?;
-    if is_among(name.bytes(), seen) {
+    if seen.contains(name.bytes()) {
         Err(unexpected(stop, tokens))
     } else {
         Ok((name, rest))
@@ -55,15 +42,14 @@ fn param_in<'a>(
 fn next_param<'a>(
     alloc: Global,
     stop: usize,
-    mut found: List<Name>,
+    found: NameList,
     tokens: &'a [Placed<'a>],
-) -> ReadList<'a, Name>
+) -> Read<'a, NameList>
     ensures value { Gives (λ x. (x.0, places x.1.now)) result (spec.next_param stop found (places tokens.now)) }
     ensures few { IfOk result (λ x. length x.0 ≤ length found + 1) }
 {
-    let (name, rest) = param_in(alloc, stop, found.as_slice(), behind(tokens))?;
-    found.push(name)?;
-    Ok((found, rest))
+    let (name, rest) = param_in(alloc, stop, &found, behind(tokens))?;
+    Ok((found.with(alloc, name)?, rest))
 }
 
 /// At most `most` further ones. By halves, so that the stack stays small.
@@ -72,9 +58,9 @@ fn more_params<'a>(
     alloc: Global,
     stop: usize,
     most: usize,
-    found: List<Name>,
+    found: NameList,
     tokens: &'a [Placed<'a>],
-) -> ReadList<'a, Name>
+) -> Read<'a, NameList>
     ensures value { Gives (λ x. (x.0, places x.1.now)) result (spec.carried (sees Comma) (spec.next_param stop) most found (places tokens.now)) }
     ensures few { IfOk result (λ x. length x.0 ≤ length found + most) }
 {
@@ -99,9 +85,9 @@ fn some_params<'a>(alloc: Global, stop: usize, tokens: &'a [Placed<'a>]) -> Read
     ensures few { IfOk result (λ x. length x.0 ≤ length tokens.now) }
 {
     let (first, rest) = name_in(alloc, stop, tokens)?;
-    let mut found = List::new(alloc);
-    found.push(first)?;
-    more_params(alloc, stop, rest.len(), found, rest)
+    let found = NameList::new(alloc).with(alloc, first)?;
+    let (found, rest) = more_params(alloc, stop, rest.len(), found, rest)?;
+    Ok((found.into_names(), rest))
 }
 
 #[tactic(auto, unfolding(crate::specs::SentenceReading::params))]
@@ -150,12 +136,12 @@ fn body_in<'a>(
     tokens: &'a [Placed<'a>],
 ) -> ReadIn<'a, Formula>
     requires { length params.now < 2 ^ 31 }
-    ensures { Gives (λ x. (x.0, places x.1.now)) result (spec.body_in context.now.stop context.now.preds.now context.now.vars.now name.now params.now (places tokens.now)) }
+    ensures { Gives (λ x. (x.0, places x.1.now)) result (spec.body_in context.now.stop context.now.preds.now context.now.vars name.now params.now (places tokens.now)) }
 {
     let inside = Context {
         alloc: context.alloc,
         stop: context.stop,
-        vars: params.as_slice(),
+        vars: NameIndex::new(context.alloc, params.as_slice())?,
         preds: context.preds,
         own: Some(Own {
             name: name.bytes(),
@@ -174,7 +160,7 @@ fn defined<'a>(
     tokens: &'a [Placed<'a>],
 ) -> ReadSentence<'a>
     requires { length params < 2 ^ 31 }
-    ensures { Gives (λ x. (x.0, places x.1.now)) result (spec.defined context.now.stop context.now.preds.now context.now.vars.now name params (places tokens.now)) }
+    ensures { Gives (λ x. (x.0, places x.1.now)) result (spec.defined context.now.stop context.now.preds.now context.now.vars name params (places tokens.now)) }
 {
     let rest = expect(Symbol::Defines, context.stop, tokens)?;
     let ((body, deep), rest) = body_in(context, &name, &params, rest)?;
@@ -185,7 +171,7 @@ fn defined<'a>(
 #[tactic(auto, unfolding(crate::specs::SentenceReading::predicate))]
 pub fn predicate<'a>(context: &Context<'_>, tokens: &'a [Placed<'a>]) -> ReadSentence<'a>
     requires { length tokens.now ≤ 100000000 }
-    ensures { Gives (λ x. (x.0, places x.1.now)) result (spec.predicate context.now.stop context.now.preds.now context.now.vars.now (places tokens.now)) }
+    ensures { Gives (λ x. (x.0, places x.1.now)) result (spec.predicate context.now.stop context.now.preds.now context.now.vars (places tokens.now)) }
 {
     let (name, rest) = name_in(context.alloc, context.stop, tokens)?;
     let (params, rest) = grouped_params(context.alloc, context.stop, rest)?;

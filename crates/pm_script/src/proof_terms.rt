@@ -11,8 +11,8 @@ use crate::parts::{head_in, spats_in};
 use crate::steps::sees_keyword;
 use crate::trees::{ReadIn, operand_tree, term_tree};
 use pm_logic::{List, Memory, Term};
-use pm_patterns::{Head, ProofTerm};
-use pm_terms::{Context, behind, expect, sees};
+use pm_patterns::{Head, ProofTerm, closed};
+use pm_terms::{Context, behind, sees};
 use pm_tokens::{Placed, Symbol};
 use std::alloc::Global;
 
@@ -53,7 +53,7 @@ fn next_term<'a>(
     found: Terms,
     tokens: &'a [Placed<'a>],
 ) -> ReadIn<'a, List<Term>>
-    ensures { Gives (λ x. (x.0, places x.1.now)) result (spec.next_term context.now.stop (table context.now) context.now.vars.now found (places tokens.now)) }
+    ensures { Gives (λ x. (x.0, places x.1.now)) result (spec.next_term context.now.stop (table context.now) context.now.vars found (places tokens.now)) }
 {
     let (tree, rest) = term_tree(context, behind(tokens))?;
     Ok((with_tree(found, tree)?, rest))
@@ -67,7 +67,7 @@ fn more_terms<'a>(
     found: Terms,
     tokens: &'a [Placed<'a>],
 ) -> ReadIn<'a, List<Term>>
-    ensures { Gives (λ x. (x.0, places x.1.now)) result (spec.carried (sees Comma) (spec.next_term context.now.stop (table context.now) context.now.vars.now) most found (places tokens.now)) }
+    ensures { Gives (λ x. (x.0, places x.1.now)) result (spec.carried (sees Comma) (spec.next_term context.now.stop (table context.now) context.now.vars) most found (places tokens.now)) }
 {
     if most == 0 {
         return Ok((found, tokens));
@@ -86,7 +86,7 @@ fn more_terms<'a>(
 /// One term or more, with commas between.
 #[tactic(auto, unfolding(crate::specs::SentenceReading::some_terms), using(crate::proofs::Carried::length_places))]
 pub fn some_terms<'a>(context: &Context<'_>, tokens: &'a [Placed<'a>]) -> ReadIn<'a, List<Term>>
-    ensures { Gives (λ x. (x.0, places x.1.now)) result (spec.some_terms context.now.stop (table context.now) context.now.vars.now (places tokens.now)) }
+    ensures { Gives (λ x. (x.0, places x.1.now)) result (spec.some_terms context.now.stop (table context.now) context.now.vars (places tokens.now)) }
 {
     let (tree, rest) = term_tree(context, tokens)?;
     let found = first_of(context.alloc, tree)?;
@@ -98,7 +98,7 @@ pub fn some_terms<'a>(context: &Context<'_>, tokens: &'a [Placed<'a>]) -> ReadIn
 /// Whether further operands come, and not the parenthesis or a `with` that a quote follows.
 #[tactic(auto, unfolding(crate::specs::SentenceReading::goes_on))]
 fn goes_on(context: &Context<'_>, tokens: &[Placed<'_>]) -> bool
-    ensures { result ≡ spec.goes_on context.now.stop (table context.now) context.now.vars.now (places tokens.now) }
+    ensures { result ≡ spec.goes_on context.now.stop (table context.now) context.now.vars (places tokens.now) }
 {
     !sees(Symbol::Close, tokens) && !sees_keyword("with", tokens)
 }
@@ -110,7 +110,7 @@ fn next_operand<'a>(
     found: Terms,
     tokens: &'a [Placed<'a>],
 ) -> ReadIn<'a, List<Term>>
-    ensures { Gives (λ x. (x.0, places x.1.now)) result (spec.next_operand context.now.stop (table context.now) context.now.vars.now found (places tokens.now)) }
+    ensures { Gives (λ x. (x.0, places x.1.now)) result (spec.next_operand context.now.stop (table context.now) context.now.vars found (places tokens.now)) }
 {
     let (tree, rest) = operand_tree(context, tokens)?;
     Ok((with_tree(found, tree)?, rest))
@@ -124,7 +124,7 @@ fn more_operands<'a>(
     found: Terms,
     tokens: &'a [Placed<'a>],
 ) -> ReadIn<'a, List<Term>>
-    ensures { Gives (λ x. (x.0, places x.1.now)) result (spec.carried (spec.goes_on context.now.stop (table context.now) context.now.vars.now) (spec.next_operand context.now.stop (table context.now) context.now.vars.now) most found (places tokens.now)) }
+    ensures { Gives (λ x. (x.0, places x.1.now)) result (spec.carried (spec.goes_on context.now.stop (table context.now) context.now.vars) (spec.next_operand context.now.stop (table context.now) context.now.vars) most found (places tokens.now)) }
 {
     if most == 0 {
         return Ok((found, tokens));
@@ -143,7 +143,7 @@ fn more_operands<'a>(
 /// One operand or more.
 #[tactic(auto, unfolding(crate::specs::SentenceReading::some_operands), using(crate::proofs::Carried::length_places))]
 fn some_operands<'a>(context: &Context<'_>, tokens: &'a [Placed<'a>]) -> ReadIn<'a, List<Term>>
-    ensures { Gives (λ x. (x.0, places x.1.now)) result (spec.some_operands context.now.stop (table context.now) context.now.vars.now (places tokens.now)) }
+    ensures { Gives (λ x. (x.0, places x.1.now)) result (spec.some_operands context.now.stop (table context.now) context.now.vars (places tokens.now)) }
 {
     let (tree, rest) = operand_tree(context, tokens)?;
     let found = first_of(context.alloc, tree)?;
@@ -153,7 +153,7 @@ fn some_operands<'a>(context: &Context<'_>, tokens: &'a [Placed<'a>]) -> ReadIn<
 /// `$! A …`, if there is one.
 #[tactic(auto, unfolding(crate::specs::SentenceReading::terms_in))]
 fn terms_in<'a>(context: &Context<'_>, tokens: &'a [Placed<'a>]) -> ReadIn<'a, List<Term>>
-    ensures { Gives (λ x. (x.0, places x.1.now)) result (spec.terms_in context.now.stop (table context.now) context.now.vars.now (places tokens.now)) }
+    ensures { Gives (λ x. (x.0, places x.1.now)) result (spec.terms_in context.now.stop (table context.now) context.now.vars (places tokens.now)) }
 {
     if sees(Symbol::Terms, tokens) {
         some_operands(context, behind(tokens))
@@ -171,7 +171,7 @@ fn behind_head<'a>(
     head: Head,
     tokens: &'a [Placed<'a>],
 ) -> ReadIn<'a, ProofTerm>
-    ensures { Gives (λ x. (x.0, places x.1.now)) result (spec.behind_head context.now.stop (table context.now) context.now.vars.now head (places tokens.now)) }
+    ensures { Gives (λ x. (x.0, places x.1.now)) result (spec.behind_head context.now.stop (table context.now) context.now.vars head (places tokens.now)) }
 {
     let ((terms, deep), rest) = terms_in(context, tokens)?;
     let (spats, rest) = spats_in(context.alloc, context.stop, rest)?;
@@ -185,7 +185,7 @@ fn arguments_in<'a>(
     lemmas: bool,
     tokens: &'a [Placed<'a>],
 ) -> ReadIn<'a, ProofTerm>
-    ensures { Gives (λ x. (x.0, places x.1.now)) result (spec.arguments_in context.now.stop (table context.now) context.now.vars.now lemmas (places tokens.now)) }
+    ensures { Gives (λ x. (x.0, places x.1.now)) result (spec.arguments_in context.now.stop (table context.now) context.now.vars lemmas (places tokens.now)) }
 {
     let (head, rest) = head_in(context.alloc, context.stop, lemmas, tokens)?;
     behind_head(context, head, rest)
@@ -212,12 +212,11 @@ pub fn proof_term<'a>(
     lemmas: bool,
     tokens: &'a [Placed<'a>],
 ) -> ReadIn<'a, ProofTerm>
-    ensures { Gives (λ x. (x.0, places x.1.now)) result (spec.proof_term context.now.stop (table context.now) context.now.vars.now lemmas (places tokens.now)) }
+    ensures { Gives (λ x. (x.0, places x.1.now)) result (spec.proof_term context.now.stop (table context.now) context.now.vars lemmas (places tokens.now)) }
 {
     if !sees(Symbol::Open, tokens) {
         return only_head(context, lemmas, tokens);
     }
     let (proof, rest) = arguments_in(context, lemmas, behind(tokens))?;
-    let rest = expect(Symbol::Close, context.stop, rest)?;
-    Ok((proof, rest))
+    closed(Symbol::Close, context.stop, proof, rest)
 }

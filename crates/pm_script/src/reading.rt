@@ -1,7 +1,6 @@
 //! Whole sentences.
 
-ghost use Rattle.std.specs.Prelude.{◌≡◌, ◌+◌, ◌<◌, ◌≤◌, ◌^◌, length, None, IfOk};
-ghost use Rattle.pm_tokens.specs.Texts as texts;
+ghost use Rattle.std.specs.Prelude.{◌≡◌, ◌+◌, ◌<◌, ◌≤◌, ◌^◌, length, None};
 ghost use Rattle.pm_tokens.specs.Tokens.{places};
 ghost use Rattle.pm_terms.specs.Steps.{Gives, all_of};
 ghost use Rattle.pm_script.specs.SentenceReading.{sentence_in, sentence_of, read_sentence};
@@ -9,18 +8,10 @@ ghost use Rattle.pm_script.specs.SentenceReading.{sentence_in, sentence_of, read
 use crate::sentence::Sentence;
 use crate::statements::sentence_in;
 use pm_logic::{List, Name, Preds};
-use pm_terms::{Context, TextFault, is_whole, moved, unexpected};
-use pm_tokens::{Placed, Tokens, tokens};
-use std::alloc::{AllocError, Global};
-
-/// The tokens of a text, of which there are no more than bytes.
-fn all_tokens(alloc: Global, text: &[u8]) -> Result<Tokens, AllocError>
-    ensures value { IfOk result (λ found. texts.lexed found ≡ texts.tokens text.now) }
-    ensures few { IfOk result (λ found. length found.list.items ≤ length text.now) }
-{
-    let found = tokens(alloc, text)?;
-    Ok(found)
-}
+use pm_terms::{Context, TextFault, is_whole, unexpected};
+use pm_text::{Readable, read_text};
+use pm_tokens::Placed;
+use std::alloc::Global;
 
 /// The sentence of all tokens of a text of length `end`, with the offset of its tree that is too deep.
 #[tactic(auto, unfolding(pm_terms::specs::Steps::all_of))]
@@ -31,7 +22,7 @@ fn all_in(
 ) -> Result<(Sentence, Option<u64>), TextFault>
     requires short { length tokens.now ≤ 100000000 }
     requires outside { context.now.own ≡ None }
-    ensures { Gives (λ s. s) result (all_of end context.now.stop (sentence_in context.now.stop context.now.preds.now context.now.vars.now (places tokens.now))) }
+    ensures { Gives (λ s. s) result (all_of end context.now.stop (sentence_in context.now.stop context.now.preds.now context.now.vars (places tokens.now))) }
 {
     let (read, rest) = sentence_in(context, tokens)?;
     if is_whole(end, context.stop, rest) {
@@ -50,7 +41,7 @@ fn whole_sentence(
 ) -> Result<Sentence, TextFault>
     requires short { length tokens.now ≤ 100000000 }
     requires outside { context.now.own ≡ None }
-    ensures { Gives (λ s. s) result (sentence_of context.now.preds.now context.now.vars.now end context.now.stop (places tokens.now)) }
+    ensures { Gives (λ s. s) result (sentence_of context.now.preds.now context.now.vars end context.now.stop (places tokens.now)) }
 {
     let (sentence, deep) = all_in(context, end, tokens)?;
     match deep {
@@ -59,27 +50,18 @@ fn whole_sentence(
     }
 }
 
-/// The sentence of a text, with the faults' offsets in the text.
-fn sentence_of<'a>(
-    alloc: Global,
-    text: &[u8],
-    vars: &'a List<Name>,
-    preds: &'a Preds,
-) -> Result<Sentence, TextFault>
-    requires short { length text.now ≤ 100000000 }
-    requires few_vars { length vars.now ≤ 999000 }
-    requires few_preds { length preds.now.list ≤ 1000000 }
-    ensures { Gives (λ s. s) result (sentence_of preds.now.list vars.now (length text.now) (texts.tokens text.now).1 (texts.tokens text.now).0) }
-{
-    let found = all_tokens(alloc, text)?;
-    let context = Context {
-        alloc,
-        stop: found.stop,
-        vars: vars.as_slice(),
-        preds: preds.list.as_slice(),
-        own: None,
-    };
-    whole_sentence(&context, text.len(), found.list.as_slice())
+impl Readable for Sentence {
+    ghost most = { 100000000 };
+
+    ghost whole = { sentence_of };
+
+    fn whole(
+        context: &Context<'_>,
+        end: usize,
+        tokens: &[Placed<'_>],
+    ) -> Result<Sentence, TextFault> {
+        whole_sentence(context, end, tokens)
+    }
 }
 
 /// Reads a text as one sentence, without its full stop, over these variables, index 0 first, and the predicates of the
@@ -99,8 +81,5 @@ pub fn read_sentence(
     requires few_preds { length preds.now.list ≤ 1000000 }
     ensures { Gives (λ s. s) result (read_sentence base preds.now.list vars.now text.now) }
 {
-    match sentence_of(alloc, text, vars, preds) {
-        Ok(sentence) => Ok(sentence),
-        Err(fault) => Err(moved(base, fault)),
-    }
+    read_text(alloc, text, base, vars, preds)
 }

@@ -3,7 +3,7 @@
 use crate::directive::Directive;
 use pm_logic::{Formula, List, Name};
 
-#[derive(Debug, Drop)]
+/// A sentence.
 pub enum Sentence {
     /// A predicate. Its parameter `j`, counted from 0, is index `j` in the body.
     Predicate {
@@ -26,4 +26,31 @@ pub enum Sentence {
     /// `}`
     Leave,
     Directive(Directive),
+}
+
+// Written out, since a contract then sees one call where a value is let go, and not the layout of the sentence.
+
+impl Drop for Sentence {
+    fn drop(self) {
+        match self {
+            Sentence::Predicate { name, params, body } => {
+                drop(name);
+                drop(params);
+                drop(body);
+            }
+            Sentence::Lemma { name, statement } => {
+                drop(name);
+                drop(statement);
+            }
+            Sentence::Directive(directive) => drop(directive),
+            Sentence::Proof
+            | Sentence::Qed
+            | Sentence::Abort
+            | Sentence::Restart
+            | Sentence::Show
+            | Sentence::Undo(_)
+            | Sentence::Enter
+            | Sentence::Leave => {}
+        }
+    }
 }

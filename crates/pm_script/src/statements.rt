@@ -1,7 +1,6 @@
 //! Sentences, from their first word on.
 
-ghost use Rattle.std.specs.Prelude.{◌≡◌, ◌≤◌, ◌<◌, [], length, None, IfOk};
-ghost use Rattle.pm_logic.specs.declared.formula.Formula.TheViews as formula;
+ghost use Rattle.std.specs.Prelude.{◌≡◌, ◌≤◌, ◌<◌, [], length, None};
 ghost use Rattle.pm_tokens.specs.Tokens.{places};
 ghost use Rattle.pm_terms.specs.Scope.{callables};
 ghost use Rattle.pm_terms.specs.Steps.{Gives};
@@ -15,12 +14,11 @@ use crate::predicates::{ReadSentence, predicate};
 use crate::sentence::Sentence;
 use crate::trees::{ROOM, ReadFormula, ReadIn, formula_at, measured};
 use crate::words::{SentenceForm, form_of, sentence_form_of};
-use pm_logic::Formula;
+use pm_logic::{Formula, wand};
+use pm_name_sets::NameIndex;
 use pm_patterns::name_in;
 use pm_terms::{Context, TextFault, behind, expect, read_natural, sees, unexpected};
 use pm_tokens::{Placed, Symbol, Token};
-use sqlite_items::Boxed;
-use std::alloc::{AllocError, Global};
 
 /// A formula with no variables, before which so many constructs may be opened.
 fn closed_formula<'a>(context: &Context<'_>, room: u32, tokens: &'a [Placed<'a>]) -> ReadFormula<'a>
@@ -30,25 +28,17 @@ fn closed_formula<'a>(context: &Context<'_>, room: u32, tokens: &'a [Placed<'a>]
     let inside = Context {
         alloc: context.alloc,
         stop: context.stop,
-        vars: &[],
+        vars: NameIndex::new(context.alloc, &[])?,
         preds: context.preds,
         own: None,
     };
     formula_at(&inside, room, tokens)
 }
 
-fn wand(alloc: Global, left: Formula, right: Formula) -> Result<Formula, AllocError>
-    ensures { IfOk result (λ f. f ≡ formula.Wand left right) }
-{
-    let left = Boxed::new(alloc, left)?;
-    let right = Boxed::new(alloc, right)?;
-    Ok(Formula::Wand(left, right))
-}
-
 /// `⊢ F` behind a formula, if it stands there.
 #[tactic(auto, unfolding(crate::specs::SentenceReading::conclusion))]
 fn conclusion<'a>(context: &Context<'_>, f: Formula, tokens: &'a [Placed<'a>]) -> ReadFormula<'a>
-    ensures { Gives (λ x. (x.0, places x.1.now)) result (spec.conclusion context.now.stop context.now.preds.now context.now.vars.now f (places tokens.now)) }
+    ensures { Gives (λ x. (x.0, places x.1.now)) result (spec.conclusion context.now.stop context.now.preds.now context.now.vars f (places tokens.now)) }
 {
     if !sees(Symbol::Entails, tokens) {
         return Ok((f, tokens));
@@ -60,7 +50,7 @@ fn conclusion<'a>(context: &Context<'_>, f: Formula, tokens: &'a [Placed<'a>]) -
 /// `F` or `F ⊢ F`, with no variables.
 #[tactic(auto, unfolding(crate::specs::SentenceReading::statement))]
 fn statement<'a>(context: &Context<'_>, tokens: &'a [Placed<'a>]) -> ReadFormula<'a>
-    ensures { Gives (λ x. (x.0, places x.1.now)) result (spec.statement context.now.stop context.now.preds.now context.now.vars.now (places tokens.now)) }
+    ensures { Gives (λ x. (x.0, places x.1.now)) result (spec.statement context.now.stop context.now.preds.now context.now.vars (places tokens.now)) }
 {
     let (f, rest) = closed_formula(context, ROOM, tokens)?;
     conclusion(context, f, rest)
@@ -68,7 +58,7 @@ fn statement<'a>(context: &Context<'_>, tokens: &'a [Placed<'a>]) -> ReadFormula
 
 #[tactic(auto, unfolding(crate::specs::SentenceReading::statement_tree))]
 fn statement_tree<'a>(context: &Context<'_>, tokens: &'a [Placed<'a>]) -> ReadIn<'a, Formula>
-    ensures { Gives (λ x. (x.0, places x.1.now)) result (spec.statement_tree context.now.stop context.now.preds.now context.now.vars.now (places tokens.now)) }
+    ensures { Gives (λ x. (x.0, places x.1.now)) result (spec.statement_tree context.now.stop context.now.preds.now context.now.vars (places tokens.now)) }
 {
     let (f, rest) = statement(context, tokens)?;
     Ok((measured(f, context.stop, tokens), rest))
@@ -77,7 +67,7 @@ fn statement_tree<'a>(context: &Context<'_>, tokens: &'a [Placed<'a>]) -> ReadIn
 /// `n : F` or `n : F ⊢ F`.
 #[tactic(auto, unfolding(crate::specs::SentenceReading::lemma))]
 fn lemma<'a>(context: &Context<'_>, tokens: &'a [Placed<'a>]) -> ReadSentence<'a>
-    ensures { Gives (λ x. (x.0, places x.1.now)) result (spec.lemma context.now.stop context.now.preds.now context.now.vars.now (places tokens.now)) }
+    ensures { Gives (λ x. (x.0, places x.1.now)) result (spec.lemma context.now.stop context.now.preds.now context.now.vars (places tokens.now)) }
 {
     let (name, rest) = name_in(context.alloc, context.stop, tokens)?;
     let rest = expect(Symbol::Colon, context.stop, rest)?;
@@ -88,7 +78,7 @@ fn lemma<'a>(context: &Context<'_>, tokens: &'a [Placed<'a>]) -> ReadSentence<'a
 /// A number of steps, one where none is named.
 #[tactic(auto, unfolding(crate::specs::SentenceReading::undo))]
 fn undo<'a>(context: &Context<'_>, tokens: &'a [Placed<'a>]) -> ReadSentence<'a>
-    ensures { Gives (λ x. (x.0, places x.1.now)) result (spec.undo context.now.stop context.now.preds.now context.now.vars.now (places tokens.now)) }
+    ensures { Gives (λ x. (x.0, places x.1.now)) result (spec.undo context.now.stop context.now.preds.now context.now.vars (places tokens.now)) }
 {
     match tokens {
         [] => Ok(((Sentence::Undo(1), None), tokens)),
@@ -107,7 +97,7 @@ fn formed<'a>(
     tokens: &'a [Placed<'a>],
 ) -> ReadSentence<'a>
     requires { length tokens.now ≤ 100000000 }
-    ensures { Gives (λ x. (x.0, places x.1.now)) result (spec.formed context.now.stop context.now.preds.now context.now.vars.now form (places tokens.now)) }
+    ensures { Gives (λ x. (x.0, places x.1.now)) result (spec.formed context.now.stop context.now.preds.now context.now.vars form (places tokens.now)) }
 {
     match form {
         SentenceForm::Predicate => predicate(context, tokens),
@@ -129,7 +119,7 @@ fn directive<'a>(
     tokens: &'a [Placed<'a>],
 ) -> ReadSentence<'a>
     requires { context.now.own ≡ None }
-    ensures { Gives (λ x. (x.0, places x.1.now)) result (spec.directive_by context.now.stop context.now.preds.now context.now.vars.now at (form_of word.now) (places tokens.now)) }
+    ensures { Gives (λ x. (x.0, places x.1.now)) result (spec.directive_by context.now.stop context.now.preds.now context.now.vars at (form_of word.now) (places tokens.now)) }
 {
     match form_of(word) {
         Some(form) => {
@@ -149,7 +139,7 @@ fn worded<'a>(
 ) -> ReadSentence<'a>
     requires short { length tokens.now ≤ 100000000 }
     requires outside { context.now.own ≡ None }
-    ensures { Gives (λ x. (x.0, places x.1.now)) result (spec.sentence_by context.now.stop context.now.preds.now context.now.vars.now at word.now (sentence_form_of word.now) (places tokens.now)) }
+    ensures { Gives (λ x. (x.0, places x.1.now)) result (spec.sentence_by context.now.stop context.now.preds.now context.now.vars at word.now (sentence_form_of word.now) (places tokens.now)) }
 {
     match sentence_form_of(word) {
         Some(form) => formed(context, form, tokens),
@@ -176,7 +166,7 @@ fn brace_in<'a>(stop: usize, tokens: &'a [Placed<'a>]) -> ReadSentence<'a>
 pub fn sentence_in<'a>(context: &Context<'_>, tokens: &'a [Placed<'a>]) -> ReadSentence<'a>
     requires short { length tokens.now ≤ 100000000 }
     requires outside { context.now.own ≡ None }
-    ensures { Gives (λ x. (x.0, places x.1.now)) result (spec.sentence_in context.now.stop context.now.preds.now context.now.vars.now (places tokens.now)) }
+    ensures { Gives (λ x. (x.0, places x.1.now)) result (spec.sentence_in context.now.stop context.now.preds.now context.now.vars (places tokens.now)) }
 {
     let [first, rest @ ..] = tokens else {
         return Err(TextFault::Unexpected(context.stop as u64));

@@ -59,7 +59,7 @@ fn is_shallow(f: &Formula) -> bool
 /// A term.
 #[tactic(auto, unfolding(crate::specs::SentenceReading::term_tree, pm_terms::specs::Scope::names_in))]
 pub fn term_tree<'a>(context: &Context<'_>, tokens: &'a [Placed<'a>]) -> ReadIn<'a, Term>
-    ensures { Gives (λ x. (x.0, places x.1.now)) result (spec.term_tree context.now.stop (table context.now) context.now.vars.now (places tokens.now)) }
+    ensures { Gives (λ x. (x.0, places x.1.now)) result (spec.term_tree context.now.stop (table context.now) context.now.vars (places tokens.now)) }
 {
     let (t, rest) = sum_in(context, ROOM, &[], tokens)?;
     let deep = deep_where(is_shallow_term(&t), context.stop, tokens);
@@ -69,7 +69,7 @@ pub fn term_tree<'a>(context: &Context<'_>, tokens: &'a [Placed<'a>]) -> ReadIn<
 /// An operand of a term.
 #[tactic(auto, unfolding(crate::specs::SentenceReading::operand_tree, pm_terms::specs::Scope::names_in))]
 pub fn operand_tree<'a>(context: &Context<'_>, tokens: &'a [Placed<'a>]) -> ReadIn<'a, Term>
-    ensures { Gives (λ x. (x.0, places x.1.now)) result (spec.operand_tree context.now.stop (table context.now) context.now.vars.now (places tokens.now)) }
+    ensures { Gives (λ x. (x.0, places x.1.now)) result (spec.operand_tree context.now.stop (table context.now) context.now.vars (places tokens.now)) }
 {
     let (t, rest) = operand_in(context, ROOM, &[], tokens)?;
     let deep = deep_where(is_shallow_term(&t), context.stop, tokens);
@@ -79,7 +79,7 @@ pub fn operand_tree<'a>(context: &Context<'_>, tokens: &'a [Placed<'a>]) -> Read
 /// A pure formula.
 #[tactic(auto, unfolding(crate::specs::SentenceReading::pure_tree, pm_terms::specs::Scope::names_in))]
 pub fn pure_tree<'a>(context: &Context<'_>, tokens: &'a [Placed<'a>]) -> ReadIn<'a, Pure>
-    ensures { Gives (λ x. (x.0, places x.1.now)) result (spec.pure_tree context.now.stop (table context.now) context.now.vars.now (places tokens.now)) }
+    ensures { Gives (λ x. (x.0, places x.1.now)) result (spec.pure_tree context.now.stop (table context.now) context.now.vars (places tokens.now)) }
 {
     let (p, rest) = pure_in(context, ROOM, PureLevel::Ors, &[], tokens)?;
     let deep = deep_where(is_shallow_pure(&p), context.stop, tokens);
@@ -90,7 +90,7 @@ pub fn pure_tree<'a>(context: &Context<'_>, tokens: &'a [Placed<'a>]) -> ReadIn<
 #[tactic(auto, unfolding(pm_terms::specs::Scope::names_in))]
 pub fn formula_at<'a>(context: &Context<'_>, room: u32, tokens: &'a [Placed<'a>]) -> ReadFormula<'a>
     requires { room < 1000 }
-    ensures { Gives (λ x. (x.0, places x.1.now)) result (formulas.formula_in context.now.stop (table context.now) room Wands context.now.vars.now (places tokens.now)) }
+    ensures { Gives (λ x. (x.0, places x.1.now)) result (formulas.formula_in context.now.stop (table context.now) room Wands context.now.vars (places tokens.now)) }
 {
     let mut bound = SmallVec::new(context.alloc);
     formula_in(context, room, Level::Wands, &mut bound, tokens)
@@ -107,7 +107,7 @@ pub fn measured(f: Formula, stop: usize, tokens: &[Placed<'_>]) -> (Formula, Opt
 /// A formula.
 #[tactic(auto, unfolding(crate::specs::SentenceReading::formula_tree))]
 pub fn formula_tree<'a>(context: &Context<'_>, tokens: &'a [Placed<'a>]) -> ReadIn<'a, Formula>
-    ensures { Gives (λ x. (x.0, places x.1.now)) result (spec.formula_tree context.now.stop (table context.now) context.now.vars.now (places tokens.now)) }
+    ensures { Gives (λ x. (x.0, places x.1.now)) result (spec.formula_tree context.now.stop (table context.now) context.now.vars (places tokens.now)) }
 {
     let (f, rest) = formula_at(context, ROOM, tokens)?;
     Ok((measured(f, context.stop, tokens), rest))

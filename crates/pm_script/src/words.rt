@@ -1,10 +1,12 @@
 //! The words that sentences begin with.
 
-ghost use Rattle.std.specs.Prelude.{◌≡◌, map};
-ghost use Rattle.pm_script.specs.Words.{row_of, sentence_form_of, form_of};
+ghost use Rattle.std.specs.Prelude.{◌≡◌};
+ghost use Rattle.pm_script.specs.Words.{sentence_form_of, form_of};
+
+use pm_tokens::lookup;
 
 /// What the first word of a sentence says, if it is no directive.
-#[derive(Clone, Copy, Debug, PartialEq, Eq)]
+#[derive(Clone, Copy)]
 pub enum SentenceForm {
     Predicate,
     Lemma,
@@ -17,7 +19,7 @@ pub enum SentenceForm {
 }
 
 /// Which directive a word begins that has no terms and formulas.
-#[derive(Clone, Copy, Debug, PartialEq, Eq)]
+#[derive(Clone, Copy)]
 pub enum PlainForm {
     Intros,
     Split,
@@ -44,7 +46,7 @@ pub enum PlainForm {
 }
 
 /// Which directive a word begins.
-#[derive(Clone, Copy, Debug, PartialEq, Eq)]
+#[derive(Clone, Copy)]
 pub enum Form {
     Plain(PlainForm),
     Destruct,
@@ -108,33 +110,16 @@ const DIRECTIVE_WORDS: [(&'static str, Form); 34] = [
     ("linear", Form::Plain(PlainForm::Linear)),
 ];
 
-/// What stands beside a word in a table.
-#[tactic(auto, unfolding(crate::specs::Words::row_of))]
-fn row_of<T: Copy>(table: &[(&'static str, T)], word: &[u8]) -> Option<T>
-    ensures { result ≡ row_of (map (λ r. (r.0.now, r.1)) table.now) word.now }
-{
-    match table {
-        [] => None,
-        [row, rest @ ..] => {
-            if word == row.0.as_bytes() {
-                Some(row.1)
-            } else {
-                row_of(rest, word)
-            }
-        }
-    }
-}
-
 /// What the first word of a sentence says, if it is no directive.
 pub fn sentence_form_of(word: &[u8]) -> Option<SentenceForm>
     ensures { result ≡ sentence_form_of word.now }
 {
-    row_of(&SENTENCE_WORDS, word)
+    lookup(&SENTENCE_WORDS, word)
 }
 
 /// The directive that the word begins.
 pub fn form_of(word: &[u8]) -> Option<Form>
     ensures { result ≡ form_of word.now }
 {
-    row_of(&DIRECTIVE_WORDS, word)
+    lookup(&DIRECTIVE_WORDS, word)
 }

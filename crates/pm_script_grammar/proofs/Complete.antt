@@ -1,5 +1,5 @@
 -- Readers that are complete: what the grammar derives is read, or it is too deep.
-use Rattle.std.proofs.Common.{◌≡◌, ◌⊎◌, inl, inr, ℕ, zero, suc, ◌≤◌, Bool, true, false, cond, not, List, [], ◌∷◌, ◌++◌, length, drop, Result, Ok, refl, sym, ap, ◌∙◌, length-append, rules, arith}
+use Rattle.std.proofs.Common.{◌≡◌, ◌⊎◌, inl, inr, ℕ, zero, suc, ◌≤◌, Bool, true, false, not, List, [], ◌∷◌, ◌++◌, length, Result, Ok, refl, sym, ap, ◌∙◌, length-append, rules, arith}
 use denote.Enum.Bare.{true_same, false_same}
 use Rattle.pm_tokens.specs.declared.symbol.Symbol.{Symbol}
 use Rattle.pm_tokens.specs.contracts.symbol.Symbol.{the_type}
@@ -46,9 +46,6 @@ Any rest = Unit {0}
 -- the tokens are these, and the value this
 pub c_wider : {A : Type 0} {P Q : List Token → A → Type 0} {E : List Place → Type 0} {read : List Place → Read A} → Complete P E read → ((ys : List Token) (a : A) → Q ys a → P ys a) → Complete Q E read
 c_wider h f = record { ok = λ o ys a rest is ends. h.ok o ys a rest (f ys a is) ends }
-
-pub c_given : {A : Type 0} {P : List Token → A → Type 0} (E : List Place → Type 0) (a : A) → ((ys : List Token) (b : A) → P ys b → (ys ≡ []) × (b ≡ a)) → Complete P E (λ ts. Ok (a, ts))
-c_given E a f = record { ok = λ o ys b rest is ends. let k = f ys b is in inl (ap (λ (v : List Token). Ok (a, put o v ++ rest)) k.0 ∙ ap (λ y. Ok (y, rest)) (sym k.1)) }
 
 pub c_changed : {A B : Type 0} {P : List Token → A → Type 0} {Q : List Token → B → Type 0} {E : List Place → Type 0} {read : List Place → Read A} (f : A → B) → Complete P E read → ((ys : List Token) (b : B) → Q ys b → (a : A) × P ys a × (b ≡ f a)) → Complete Q E (λ ts. made f (read ts))
 c_changed {read = read} f h g = record {
@@ -100,25 +97,6 @@ c_followed {read = read} {next = next} h k f = record {
       let whole : put o zs ++ rest ≡ put o p.left ++ us = ap (λ (v : List Token). put o v ++ rest) p.whole ∙ put-append o p.left p.right rest in
       at_okay (λ ts. read ts >>= λ a. next a.0 a.1) (put o zs ++ rest) (put o p.left ++ us) (b, rest) whole (then_okay (read (put o p.left ++ us)) (λ a. next a.0 a.1) (p.value, us) (b, rest) (h.ok o p.left p.value us p.first (p.between (skip p.left o) rest ends)) ((k p.value).ok (skip p.left o) p.right b rest p.second ends));
 }
-
--- one of two, by a test
-pub c_chosen : {A : Type 0} {P Q R : List Token → A → Type 0} {E : List Place → Type 0} {one other : List Place → Read A} (test : List Place → Bool) → Complete P E one → Complete Q E other
-    → ((o : ℕ → ℕ) (zs : List Token) (a : A) (rest : List Place) → R zs a → E rest → ((test (put o zs ++ rest) ≡ true) × P zs a) ⊎ ((test (put o zs ++ rest) ≡ false) × Q zs a)) → Complete R E (λ ts. cond (test ts) (one ts) (other ts))
-c_chosen {A = A} {P = P} {Q = Q} {R = R} {E = E} {one = one} {other = other} test h k f = record { ok = λ o zs a rest is ends. go o zs a rest ends (f o zs a rest is ends) }
-  where
-    go : (o : ℕ → ℕ) (zs : List Token) (a : A) (rest : List Place) → E rest → ((test (put o zs ++ rest) ≡ true) × P zs a) ⊎ ((test (put o zs ++ rest) ≡ false) × Q zs a) → Okay (cond (test (put o zs ++ rest)) (one (put o zs ++ rest)) (other (put o zs ++ rest))) (a, rest)
-    go o zs a rest ends (inl p) = rw p.0 (h.ok o zs a rest p.1 ends)
-    go o zs a rest ends (inr q) = rw q.0 (k.ok o zs a rest q.1 ends)
-
--- behind a symbol where it stands there
-pub c_after : {A : Type 0} {P Q R : List Token → A → Type 0} {E : List Place → Type 0} {one other : List Place → Read A} (t : Symbol) → Complete P E one → Complete Q E other
-    → ((o : ℕ → ℕ) (zs : List Token) (a : A) (rest : List Place) → R zs a → E rest → ((us : List Token) × (zs ≡ symbol t ∷ us) × P us a) ⊎ ((sees t (put o zs ++ rest) ≡ false) × Q zs a)) → Complete R E (λ ts. cond (sees t ts) (one (drop 1 ts)) (other ts))
-c_after {A = A} {P = P} {Q = Q} {E = E} {one = one} {other = other} t h k f = record { ok = λ o zs a rest is ends. go o zs a rest ends (f o zs a rest is ends) }
-  where
-    go : (o : ℕ → ℕ) (zs : List Token) (a : A) (rest : List Place) → E rest → ((us : List Token) × (zs ≡ symbol t ∷ us) × P us a) ⊎ ((sees t (put o zs ++ rest) ≡ false) × Q zs a)
-        → Okay (cond (sees t (put o zs ++ rest)) (one (drop 1 (put o zs ++ rest))) (other (put o zs ++ rest))) (a, rest)
-    go o zs a rest ends (inl p) = let seen = sees_itself t (o 0) (put (λ n. o (suc n)) p.0 ++ rest) in at_okay (λ ts. cond (sees t ts) (one (drop 1 ts)) (other ts)) (put o zs ++ rest) (place (symbol t) (o 0) ∷ (put (λ n. o (suc n)) p.0 ++ rest)) (a, rest) (ap (λ (v : List Token). put o v ++ rest) p.1) (rw seen (h.ok (λ n. o (suc n)) p.0 a rest p.2 ends))
-    go o zs a rest ends (inr q) = rw q.0 (k.ok o zs a rest q.1 ends)
 
 -- ---- several, one behind another
 

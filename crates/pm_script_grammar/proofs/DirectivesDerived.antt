@@ -22,7 +22,8 @@ use Rattle.pm_script.specs.declared.words.Form.{Form}
 use Rattle.pm_script.specs.declared.words.Form.TheVariants as form
 use Rattle.pm_script.specs.declared.words.PlainForm.{PlainForm}
 use Rattle.pm_script.specs.declared.words.PlainForm.TheVariants as plain_form
-use Rattle.pm_script.specs.Words.{bytes, row_of, directive_words, form_of}
+use Rattle.pm_tokens.specs.Words.{lookup}
+use Rattle.pm_script.specs.Words.{bytes, directive_words, form_of}
 use Rattle.pm_script.specs.SentenceReading.{mapped, if_any, any_sels, any_intros, as_pattern, in_name, into_name, named_intros, intros, rename, named_revert, revert, two_names, quoted_two, combine, rewrite_by, rewrite, both_certs, certs_in, with_certs, linear, plain_in, operand_tree, destruct, pose_proof, eliminate, specialize, apply, assert, exists_in, fold, write, alloc, cases, directive_in}
 use Rattle.pm_grammar.specs.TermGrammar.{IsTerm, operand}
 use Rattle.pm_grammar.specs.PureGrammar.{IsPure}
@@ -362,8 +363,8 @@ module _ (stop : ℕ) (preds : Callables) (names : Names) where
   )
 
 -- what stands beside a word has what the rows have
-pub row_has : {A : Type 0} (P : List ℕ × A → Type 0) (rows : List (List ℕ × A)) → AllByRecursion P rows → (w : List ℕ) (x : A) → row_of rows w ≡ Some x → P (w, x)
-unfolding row_of
+pub row_has : {A : Type 0} (P : List ℕ × A → Type 0) (rows : List (List ℕ × A)) → AllByRecursion P rows → (w : List ℕ) (x : A) → lookup rows w ≡ Some x → P (w, x)
+unfolding lookup
 row_has P [] h w x e = absurd cc
 row_has P (r ∷ rows) h w x e = either (bytes_eq w r.0) _ _ _ e (P (w, x))
     (λ here k. let same : r.1 ≡ x = cc in subst (λ y. P (w, y)) same (subst (λ v. P (v, r.1)) (sym ((bytes_eq-Decides w r.0).0 here)) h.0))

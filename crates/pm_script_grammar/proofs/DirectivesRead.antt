@@ -22,7 +22,9 @@ use Rattle.pm_script.specs.declared.words.Form.{Form}
 use Rattle.pm_script.specs.declared.words.Form.TheVariants as form
 use Rattle.pm_script.specs.declared.words.PlainForm.{PlainForm}
 use Rattle.pm_script.specs.declared.words.PlainForm.TheVariants as plain_form
-use Rattle.pm_script.specs.Words.{bytes}
+use Rattle.pm_tokens.specs.Words.{lookup}
+use Rattle.pm_script.specs.Words.{bytes, sentence_words, directive_words, sentence_form_of, form_of}
+use lib.Utf8.{encode}
 use Rattle.pm_script.specs.SentenceReading.{Deeps, ReadIn, mapped, then_read, behind_word, if_any, any_sels, any_intros, as_pattern, as_bound, as_name, in_name, into_name, asserted, grouped_name, allocated, named_intros, intros, rename, named_revert, revert, two_names, quoted_two, combine, rewrite_by, rewrite, both_certs, certs_in, with_certs, linear, plain_in, operand_tree, destruct, pose_proof, eliminate, specialize, apply, assert, exists_in, fold, write, alloc, cases, directive_in}
 use Rattle.pm_grammar.specs.TermGrammar.{IsTerm, operand}
 use Rattle.pm_grammar.specs.PureGrammar.{IsPure}
@@ -38,8 +40,7 @@ use Rattle.pm_script_grammar.proofs.PatternsRead.{made_okay}
 use Rattle.pm_script_grammar.proofs.QuotedRead.{c_enclosed, c_quotes, c_name, c_quoted_name, c_quoted_names, c_grouped_names, c_quoted_sels, c_quoted_pattern, c_bound, c_intros, c_quoted_intros, c_quoted_premise}
 use Rattle.pm_script_grammar.proofs.CertsRead.{c_quoted_cert}
 use Rattle.pm_script_grammar.proofs.PartsRead.{c_worded, AtEnd, c_any, CompleteTree, t_mapped, t_then, t_followed, t_operand, t_grouped_formula, t_grouped_pure, end_terms, t_some_terms, t_proof_term}
-use Rattle.pm_script_grammar.proofs.KnownWords as words
-use Rattle.pm_script_grammar.proofs.KnownWords.{Known}
+use Rattle.pm_script_grammar.proofs.KnownWords.{Known, known}
 
 quoted_one : {A : Type 0} (P : List Token → A → Type 0) (ys : List Token) (a : A) → Quoted P ys a → 1 ≤ length ys
 quoted_one P ys a k = subst (λ (v : List Token). 1 ≤ length v) (sym k.1) (omega arith)
@@ -353,45 +354,45 @@ module _ (stop : ℕ) (preds : Callables) (names : Names) where
   plain_row w f ys x k h = record { kind = form.Plain f; known = k; read = plainly f ys x h }
 
   pub directive_read : (w : List ℕ) (ys : List Token) (x : Directive) → IsDirective preds names w ys x → DirectiveRead w ys x
-  unfolding plain_in linear
-  directive_read w ys x (g.intros_names n ns) = subst (λ (v : List Token). DirectiveRead w v (d.Intros (variables (n ∷ ns)))) (append-nil (in_parentheses (names_as (n ∷ ns)))) (plain_row w plain_form.Intros (in_parentheses (names_as (n ∷ ns)) ++ []) (d.Intros (variables (n ∷ ns))) words.known_intros (named_intros_read (n ∷ ns) tt [] (variables (n ∷ ns)) (no_further (variables (n ∷ ns)))))
-  directive_read w ys x (g.intros_both n ns {ts = ts} {ps = ps} is) = plain_row w plain_form.Intros (in_parentheses (names_as (n ∷ ns)) ++ in_quotes ts) (d.Intros (variables (n ∷ ns) ++ ps)) words.known_intros (named_intros_read (n ∷ ns) tt (in_quotes ts) (variables (n ∷ ns) ++ ps) (some_further (variables (n ∷ ns)) ts ps is))
-  directive_read w ys x (g.intros {ts = ts} {ps = ps} is) = plain_row w plain_form.Intros (in_quotes ts) (d.Intros ps) words.known_intros (intros_read ts ps is)
-  directive_read w _ _ (g.destruct {xs = xs} {ys = ys} {t = t} {p = p} h k) = record { kind = form.Destruct; known = words.known_destruct; read = destruct_read xs ys t p (h, λ e. absurd cc) k }
-  directive_read w _ _ (g.pose_proof {xs = xs} {ys = ys} {t = t} {p = p} h k) = record { kind = form.PoseProof; known = words.known_pose_proof; read = pose_read xs ys t p (h, λ e. absurd cc) k }
-  directive_read w _ _ (g.eliminate {xs = xs} {ys = ys} {t = t} {p = p} h k) = record { kind = form.Mod; known = words.known_mod; read = eliminate_read xs ys t p (h, λ e. absurd cc) k }
-  directive_read w _ _ (g.specialize {xs = xs} {t = t} h k) = record { kind = form.Specialize; known = words.known_specialize; read = specialize_read xs t (h, λ e. k) }
-  directive_read w _ _ (g.apply {xs = xs} {t = t} h) = record { kind = form.Apply; known = words.known_apply; read = apply_read xs t (h, λ e. absurd cc) }
-  directive_read w _ _ (g.assert {e = e} b how bracketed {xs = xs} {ys = ys} {f = f} {p = p} h k) = record { kind = form.Assert; known = words.known_assert; read = assert_read xs _ f how p (e, h) (b, name (bytes "with") ∷ (in_quotes (spat_as how) ++ name (bytes "as") ∷ in_quotes ys), refl, (spat_as how, ys, refl, (refl, bracketed), k)) }
-  directive_read w ys x g.split = plain_row w plain_form.Split [] d.Split words.known_split (λ o. inl refl)
-  directive_read w ys x (g.split_left xs one) = plain_row w plain_form.SplitL (if_some g.quoted_names xs) (d.SplitL xs) words.known_split_left (split_left_read xs one)
-  directive_read w ys x (g.split_right xs one) = plain_row w plain_form.SplitR (if_some g.quoted_names xs) (d.SplitR xs) words.known_split_right (split_right_read xs one)
-  directive_read w ys x g.left = plain_row w plain_form.Left [] d.Left words.known_left (λ o. inl refl)
-  directive_read w ys x g.right = plain_row w plain_form.Right [] d.Right words.known_right (λ o. inl refl)
-  directive_read w ys x g.assumption_of = plain_row w plain_form.Assumption [] d.Assumption words.known_assumption (λ o. inl refl)
-  directive_read w ys x g.ex_falso = plain_row w plain_form.ExFalso [] d.ExFalso words.known_ex_falso (λ o. inl refl)
-  directive_read w ys x g.done = plain_row w plain_form.Done [] d.Done words.known_done (λ o. inl refl)
-  directive_read w _ _ (g.exists {xs = xs} {ts = ts} h) = record { kind = form.Exists; known = words.known_exists; read = exists_read xs ts h }
-  directive_read w ys x (g.exact n) = plain_row w plain_form.Exact (g.quoted n) (d.Exact n) words.known_exact (exact_read n)
-  directive_read w ys x (g.clear ss one) = plain_row w plain_form.Clear (g.quoted_sels ss) (d.Clear ss) words.known_clear (clear_read ss one)
-  directive_read w ys x (g.rename n m) = plain_row w plain_form.Rename (g.quoted n ++ name (bytes "into") ∷ g.quoted m) (d.Rename n m) words.known_rename (rename_read n m)
-  directive_read w ys x (g.revert_names xs one) = subst (λ (v : List Token). DirectiveRead w v (d.Revert xs [])) (append-nil (in_parentheses (names_as xs))) (plain_row w plain_form.Revert (in_parentheses (names_as xs) ++ []) (d.Revert xs []) words.known_revert (named_revert_read xs one [] [] no_sels))
-  directive_read w ys x (g.revert_sels ss one) = plain_row w plain_form.Revert (g.quoted_sels ss) (d.Revert [] ss) words.known_revert (revert_read ss one)
-  directive_read w ys x (g.revert_both xs ss one more) = plain_row w plain_form.Revert (in_parentheses (names_as xs) ++ g.quoted_sels ss) (d.Revert xs ss) words.known_revert (named_revert_read xs one (g.quoted_sels ss) ss (some_sels ss more))
-  directive_read w ys x (g.frame ss one) = plain_row w plain_form.Frame (if_some g.quoted_sels ss) (d.Frame ss) words.known_frame (frame_read ss one)
-  directive_read w ys x g.mod_intro = plain_row w plain_form.ModIntro [] d.ModIntro words.known_mod_intro (λ o. inl refl)
-  directive_read w ys x g.next_step = plain_row w plain_form.Next [] d.Next words.known_next (λ o. inl refl)
-  directive_read w ys x (g.loeb n) = plain_row w plain_form.Loeb (name (bytes "as") ∷ g.quoted n) (d.Loeb n) words.known_loeb (loeb_read n)
-  directive_read w ys x (g.loeb_ascii n) = plain_row w plain_form.Loeb (name (bytes "as") ∷ g.quoted n) (d.Loeb n) words.known_loeb_ascii (loeb_read n)
-  directive_read w ys x (g.unfold_call n) = plain_row w plain_form.Unfold (if_some g.quoted n) (d.Unfold n) words.known_unfold (unfold_read n)
-  directive_read w _ _ (g.fold {e = e} {xs = xs} {f = f} n h) = record { kind = form.Fold; known = words.known_fold; read = fold_read xs f n (e, h) }
-  directive_read w _ _ (g.combine n m {ts = ts} {p = p} h) = plain_row w plain_form.Combine (in_quotes (name n ∷ name m ∷ []) ++ name (bytes "as") ∷ in_quotes ts) (d.Combine n m p) words.known_combine (combine_read n m ts p h)
-  directive_read w _ _ (g.write n {ts = ts} {t = t} h) = record { kind = form.Write; known = words.known_write; read = write_read n ts t h }
-  directive_read w _ _ (g.alloc n {xs = xs} {ys = ys} {t = t} {p = p} h k) = record { kind = form.Alloc; known = words.known_alloc; read = alloc_read n xs ys t p h k }
-  directive_read w ys x g.pure_intro = plain_row w plain_form.PureIntro [] d.PureIntro words.known_pure_intro (λ o. inl refl)
-  directive_read w ys x (g.rewrite back n) = subst (λ (v : List Token). DirectiveRead w (minus_if back ++ v) (d.Rewrite back n None)) (append-nil (g.quoted n)) (plain_row w plain_form.Rewrite (minus_if back ++ (g.quoted n ++ [])) (d.Rewrite back n None) words.known_rewrite (rewrite_read back n [] None refl))
-  directive_read w ys x (g.rewrite_in back n m) = plain_row w plain_form.Rewrite (minus_if back ++ (g.quoted n ++ name (bytes "in") ∷ g.quoted m)) (d.Rewrite back n (Some m)) words.known_rewrite (rewrite_read back n (name (bytes "in") ∷ g.quoted m) (Some m) (g.quoted m, refl, spelled_quoted m))
-  directive_read w _ _ (g.cases n {ts = ts} {p = p} h) = record { kind = form.Cases; known = words.known_cases; read = cases_read n ts p h }
-  directive_read w ys x g.linear = plain_row w plain_form.Linear [] d.Linear words.known_linear (λ o. inl refl)
-  directive_read w _ _ (g.linear_with {xs = xs} {c = c} h) = subst (λ (v : List Token). DirectiveRead w (name (bytes "with") ∷ v) (d.LinearWith (c ∷ []))) (append-nil (in_quotes xs)) (plain_row w plain_form.Linear (name (bytes "with") ∷ (in_quotes xs ++ [])) (d.LinearWith (c ∷ [])) words.known_linear (linear_read xs c h [] None refl))
-  directive_read w _ _ (g.linear_with_two {xs = xs} {ys = ys} {c = c} {e = e} h k) = plain_row w plain_form.Linear (name (bytes "with") ∷ (in_quotes xs ++ in_quotes ys)) (d.LinearWith (c ∷ e ∷ [])) words.known_linear (linear_read xs c h (in_quotes ys) (Some e) (ys, refl, k))
+  unfolding plain_in linear encode lookup sentence_words directive_words sentence_form_of form_of
+  directive_read w ys x (g.intros_names n ns) = subst (λ (v : List Token). DirectiveRead w v (d.Intros (variables (n ∷ ns)))) (append-nil (in_parentheses (names_as (n ∷ ns)))) (plain_row w plain_form.Intros (in_parentheses (names_as (n ∷ ns)) ++ []) (d.Intros (variables (n ∷ ns))) (known _ _ refl refl) (named_intros_read (n ∷ ns) tt [] (variables (n ∷ ns)) (no_further (variables (n ∷ ns)))))
+  directive_read w ys x (g.intros_both n ns {ts = ts} {ps = ps} is) = plain_row w plain_form.Intros (in_parentheses (names_as (n ∷ ns)) ++ in_quotes ts) (d.Intros (variables (n ∷ ns) ++ ps)) (known _ _ refl refl) (named_intros_read (n ∷ ns) tt (in_quotes ts) (variables (n ∷ ns) ++ ps) (some_further (variables (n ∷ ns)) ts ps is))
+  directive_read w ys x (g.intros {ts = ts} {ps = ps} is) = plain_row w plain_form.Intros (in_quotes ts) (d.Intros ps) (known _ _ refl refl) (intros_read ts ps is)
+  directive_read w _ _ (g.destruct {xs = xs} {ys = ys} {t = t} {p = p} h k) = record { kind = form.Destruct; known = (known _ _ refl refl); read = destruct_read xs ys t p (h, λ e. absurd cc) k }
+  directive_read w _ _ (g.pose_proof {xs = xs} {ys = ys} {t = t} {p = p} h k) = record { kind = form.PoseProof; known = (known _ _ refl refl); read = pose_read xs ys t p (h, λ e. absurd cc) k }
+  directive_read w _ _ (g.eliminate {xs = xs} {ys = ys} {t = t} {p = p} h k) = record { kind = form.Mod; known = (known _ _ refl refl); read = eliminate_read xs ys t p (h, λ e. absurd cc) k }
+  directive_read w _ _ (g.specialize {xs = xs} {t = t} h k) = record { kind = form.Specialize; known = (known _ _ refl refl); read = specialize_read xs t (h, λ e. k) }
+  directive_read w _ _ (g.apply {xs = xs} {t = t} h) = record { kind = form.Apply; known = (known _ _ refl refl); read = apply_read xs t (h, λ e. absurd cc) }
+  directive_read w _ _ (g.assert {e = e} b how bracketed {xs = xs} {ys = ys} {f = f} {p = p} h k) = record { kind = form.Assert; known = (known _ _ refl refl); read = assert_read xs _ f how p (e, h) (b, name (bytes "with") ∷ (in_quotes (spat_as how) ++ name (bytes "as") ∷ in_quotes ys), refl, (spat_as how, ys, refl, (refl, bracketed), k)) }
+  directive_read w ys x g.split = plain_row w plain_form.Split [] d.Split (known _ _ refl refl) (λ o. inl refl)
+  directive_read w ys x (g.split_left xs one) = plain_row w plain_form.SplitL (if_some g.quoted_names xs) (d.SplitL xs) (known _ _ refl refl) (split_left_read xs one)
+  directive_read w ys x (g.split_right xs one) = plain_row w plain_form.SplitR (if_some g.quoted_names xs) (d.SplitR xs) (known _ _ refl refl) (split_right_read xs one)
+  directive_read w ys x g.left = plain_row w plain_form.Left [] d.Left (known _ _ refl refl) (λ o. inl refl)
+  directive_read w ys x g.right = plain_row w plain_form.Right [] d.Right (known _ _ refl refl) (λ o. inl refl)
+  directive_read w ys x g.assumption_of = plain_row w plain_form.Assumption [] d.Assumption (known _ _ refl refl) (λ o. inl refl)
+  directive_read w ys x g.ex_falso = plain_row w plain_form.ExFalso [] d.ExFalso (known _ _ refl refl) (λ o. inl refl)
+  directive_read w ys x g.done = plain_row w plain_form.Done [] d.Done (known _ _ refl refl) (λ o. inl refl)
+  directive_read w _ _ (g.exists {xs = xs} {ts = ts} h) = record { kind = form.Exists; known = (known _ _ refl refl); read = exists_read xs ts h }
+  directive_read w ys x (g.exact n) = plain_row w plain_form.Exact (g.quoted n) (d.Exact n) (known _ _ refl refl) (exact_read n)
+  directive_read w ys x (g.clear ss one) = plain_row w plain_form.Clear (g.quoted_sels ss) (d.Clear ss) (known _ _ refl refl) (clear_read ss one)
+  directive_read w ys x (g.rename n m) = plain_row w plain_form.Rename (g.quoted n ++ name (bytes "into") ∷ g.quoted m) (d.Rename n m) (known _ _ refl refl) (rename_read n m)
+  directive_read w ys x (g.revert_names xs one) = subst (λ (v : List Token). DirectiveRead w v (d.Revert xs [])) (append-nil (in_parentheses (names_as xs))) (plain_row w plain_form.Revert (in_parentheses (names_as xs) ++ []) (d.Revert xs []) (known _ _ refl refl) (named_revert_read xs one [] [] no_sels))
+  directive_read w ys x (g.revert_sels ss one) = plain_row w plain_form.Revert (g.quoted_sels ss) (d.Revert [] ss) (known _ _ refl refl) (revert_read ss one)
+  directive_read w ys x (g.revert_both xs ss one more) = plain_row w plain_form.Revert (in_parentheses (names_as xs) ++ g.quoted_sels ss) (d.Revert xs ss) (known _ _ refl refl) (named_revert_read xs one (g.quoted_sels ss) ss (some_sels ss more))
+  directive_read w ys x (g.frame ss one) = plain_row w plain_form.Frame (if_some g.quoted_sels ss) (d.Frame ss) (known _ _ refl refl) (frame_read ss one)
+  directive_read w ys x g.mod_intro = plain_row w plain_form.ModIntro [] d.ModIntro (known _ _ refl refl) (λ o. inl refl)
+  directive_read w ys x g.next_step = plain_row w plain_form.Next [] d.Next (known _ _ refl refl) (λ o. inl refl)
+  directive_read w ys x (g.loeb n) = plain_row w plain_form.Loeb (name (bytes "as") ∷ g.quoted n) (d.Loeb n) (known _ _ refl refl) (loeb_read n)
+  directive_read w ys x (g.loeb_ascii n) = plain_row w plain_form.Loeb (name (bytes "as") ∷ g.quoted n) (d.Loeb n) (known _ _ refl refl) (loeb_read n)
+  directive_read w ys x (g.unfold_call n) = plain_row w plain_form.Unfold (if_some g.quoted n) (d.Unfold n) (known _ _ refl refl) (unfold_read n)
+  directive_read w _ _ (g.fold {e = e} {xs = xs} {f = f} n h) = record { kind = form.Fold; known = (known _ _ refl refl); read = fold_read xs f n (e, h) }
+  directive_read w _ _ (g.combine n m {ts = ts} {p = p} h) = plain_row w plain_form.Combine (in_quotes (name n ∷ name m ∷ []) ++ name (bytes "as") ∷ in_quotes ts) (d.Combine n m p) (known _ _ refl refl) (combine_read n m ts p h)
+  directive_read w _ _ (g.write n {ts = ts} {t = t} h) = record { kind = form.Write; known = (known _ _ refl refl); read = write_read n ts t h }
+  directive_read w _ _ (g.alloc n {xs = xs} {ys = ys} {t = t} {p = p} h k) = record { kind = form.Alloc; known = (known _ _ refl refl); read = alloc_read n xs ys t p h k }
+  directive_read w ys x g.pure_intro = plain_row w plain_form.PureIntro [] d.PureIntro (known _ _ refl refl) (λ o. inl refl)
+  directive_read w ys x (g.rewrite back n) = subst (λ (v : List Token). DirectiveRead w (minus_if back ++ v) (d.Rewrite back n None)) (append-nil (g.quoted n)) (plain_row w plain_form.Rewrite (minus_if back ++ (g.quoted n ++ [])) (d.Rewrite back n None) (known _ _ refl refl) (rewrite_read back n [] None refl))
+  directive_read w ys x (g.rewrite_in back n m) = plain_row w plain_form.Rewrite (minus_if back ++ (g.quoted n ++ name (bytes "in") ∷ g.quoted m)) (d.Rewrite back n (Some m)) (known _ _ refl refl) (rewrite_read back n (name (bytes "in") ∷ g.quoted m) (Some m) (g.quoted m, refl, spelled_quoted m))
+  directive_read w _ _ (g.cases n {ts = ts} {p = p} h) = record { kind = form.Cases; known = (known _ _ refl refl); read = cases_read n ts p h }
+  directive_read w ys x g.linear = plain_row w plain_form.Linear [] d.Linear (known _ _ refl refl) (λ o. inl refl)
+  directive_read w _ _ (g.linear_with {xs = xs} {c = c} h) = subst (λ (v : List Token). DirectiveRead w (name (bytes "with") ∷ v) (d.LinearWith (c ∷ []))) (append-nil (in_quotes xs)) (plain_row w plain_form.Linear (name (bytes "with") ∷ (in_quotes xs ++ [])) (d.LinearWith (c ∷ [])) (known _ _ refl refl) (linear_read xs c h [] None refl))
+  directive_read w _ _ (g.linear_with_two {xs = xs} {ys = ys} {c = c} {e = e} h k) = plain_row w plain_form.Linear (name (bytes "with") ∷ (in_quotes xs ++ in_quotes ys)) (d.LinearWith (c ∷ e ∷ [])) (known _ _ refl refl) (linear_read xs c h (in_quotes ys) (Some e) (ys, refl, k))

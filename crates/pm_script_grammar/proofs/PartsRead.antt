@@ -1,5 +1,5 @@
 -- Parts of directives that the grammar derives are read, unless they are too deep.
-use Rattle.std.proofs.Common.{◌≡◌, ◌⊎◌, inl, inr, ℕ, zero, suc, ℤ, ◌≤◌, Bool, true, false, cond, ◌&&◌, List, [], ◌∷◌, ◌++◌, length, drop, Option, Some, None, Result, Ok, refl, sym, ap, subst, ◌∙◌, append_assoc, append-nil, length-append, arith}
+use Rattle.std.proofs.Common.{◌≡◌, inl, inr, ℕ, zero, suc, ℤ, ◌≤◌, Bool, true, false, ◌&&◌, List, [], ◌∷◌, ◌++◌, length, drop, Option, Some, None, Result, Ok, refl, sym, ap, subst, ◌∙◌, append_assoc, append-nil, length-append, arith}
 use Rattle.std.specs.Prelude.{codes}
 use Rattle.std.proofs.lemmas.Slice.Eq.{bytes_eq-Decides}
 use Rattle.pm_logic.specs.declared.formula.Term.{Term}
@@ -21,7 +21,7 @@ use Rattle.pm_patterns.specs.declared.pattern.Head.{Head}
 use Rattle.pm_patterns.specs.declared.pattern.Head.TheVariants.{Hyp}
 use Rattle.pm_patterns.specs.declared.pattern.ProofTerm.{ProofTerm}
 use Rattle.pm_script.specs.Words.{bytes}
-use Rattle.pm_script.specs.SentenceReading.{Deeps, ReadIn, too_deep, plain, mapped, then_read, sees_word, sees_keyword, expect_word, behind_word, if_any, head_in, spats_in, term_tree, operand_tree, pure_tree, formula_tree, grouped_formula, grouped_pure, carried, first_of, with_tree, next_term, some_terms, goes_on, next_operand, some_operands, terms_in, behind_head, arguments_in, proof_term}
+use Rattle.pm_script.specs.SentenceReading.{Deeps, ReadIn, too_deep, mapped, then_read, sees_word, sees_keyword, expect_word, behind_word, if_any, head_in, spats_in, term_tree, operand_tree, pure_tree, formula_tree, grouped_formula, grouped_pure, carried, first_of, with_tree, next_term, some_terms, goes_on, next_operand, some_operands, terms_in, behind_head, arguments_in, proof_term}
 use Rattle.pm_grammar.specs.TermGrammar as t
 use Rattle.pm_grammar.specs.TermGrammar.{IsLiteral, positive, negative, IsTerm, sum, operand}
 use Rattle.pm_grammar.specs.PureGrammar.{IsPure}
@@ -81,12 +81,6 @@ c_any {A = A} {P = P} {read = read} stop h one = record { ok = go }
 
 pub record CompleteTree {A : Type 0} (P : List Token → A → Type 0) (Ends : List Place → Type 0) (read : List Place → ReadIn A) : Type 0 where
   pub ok : (o : ℕ → ℕ) (ys : List Token) (a : A) (rest : List Place) → P ys a → Ends rest → (deeps : Deeps) × Okay (read (put o ys ++ rest)) ((a, deeps), rest)
-
-pub t_wider : {A : Type 0} {P Q : List Token → A → Type 0} {E : List Place → Type 0} {read : List Place → ReadIn A} → CompleteTree P E read → ((ys : List Token) (a : A) → Q ys a → P ys a) → CompleteTree Q E read
-t_wider h k = record { ok = λ o ys a rest is ends. h.ok o ys a rest (k ys a is) ends }
-
-pub t_plain : {A : Type 0} {P : List Token → A → Type 0} {E : List Place → Type 0} {read : List Place → Read A} → Complete P E read → CompleteTree P E (λ ts. plain (read ts))
-t_plain {read = read} h = record { ok = λ o ys a rest is ends. (None, then_okay (read (put o ys ++ rest)) (λ x. Ok ((x.0, None), x.1)) (a, rest) ((a, None), rest) (h.ok o ys a rest is ends) (inl refl)) }
 
 pub t_mapped : {A B : Type 0} {P : List Token → A → Type 0} {Q : List Token → B → Type 0} {E : List Place → Type 0} {read : List Place → ReadIn A} (f : A → B) → CompleteTree P E read → ((ys : List Token) (b : B) → Q ys b → (a : A) × P ys a × (b ≡ f a)) → CompleteTree Q E (λ ts. mapped f (read ts))
 t_mapped {read = read} f h k = record {
@@ -149,19 +143,6 @@ t_closed {read = read} Last t stop e h k = record {
       let seen = sees_itself t at rest in
       (d.0, at_okay (λ ts. closed_by t stop (read ts)) (put o ys ++ rest) (put o p.0 ++ us) ((a, d.0), rest) whole (then_okay (read (put o p.0 ++ us)) (λ x. expect t stop x.1 >>= λ r. Ok (x.0, r)) ((a, d.0), us) ((a, d.0), rest) d.1 (inl (rw seen refl))));
 }
-
--- behind a symbol where it stands there
-pub t_after : {A : Type 0} {P Q R : List Token → A → Type 0} {E : List Place → Type 0} {one other : List Place → ReadIn A} (t : Symbol) → CompleteTree P E one → CompleteTree Q E other
-    → ((o : ℕ → ℕ) (zs : List Token) (a : A) (rest : List Place) → R zs a → E rest → ((us : List Token) × (zs ≡ symbol t ∷ us) × P us a) ⊎ ((sees t (put o zs ++ rest) ≡ false) × Q zs a)) → CompleteTree R E (λ ts. cond (sees t ts) (one (drop 1 ts)) (other ts))
-t_after {A = A} {P = P} {Q = Q} {E = E} {one = one} {other = other} t h k f = record { ok = λ o zs a rest is ends. go o zs a rest ends (f o zs a rest is ends) }
-  where
-    go : (o : ℕ → ℕ) (zs : List Token) (a : A) (rest : List Place) → E rest → ((us : List Token) × (zs ≡ symbol t ∷ us) × P us a) ⊎ ((sees t (put o zs ++ rest) ≡ false) × Q zs a)
-        → (deeps : Deeps) × Okay (cond (sees t (put o zs ++ rest)) (one (drop 1 (put o zs ++ rest))) (other (put o zs ++ rest))) ((a, deeps), rest)
-    go o zs a rest ends (inl p) =
-        let seen = sees_itself t (o 0) (put (λ n. o (suc n)) p.0 ++ rest) in
-        let d = h.ok (λ n. o (suc n)) p.0 a rest p.2 ends in
-        (d.0, at_okay (λ ts. cond (sees t ts) (one (drop 1 ts)) (other ts)) (put o zs ++ rest) (place (symbol t) (o 0) ∷ (put (λ n. o (suc n)) p.0 ++ rest)) ((a, d.0), rest) (ap (λ (v : List Token). put o v ++ rest) p.1) (rw seen d.1))
-    go o zs a rest ends (inr q) = let d = k.ok o zs a rest q.1 ends in let seen = q.0 in (d.0, rw seen d.1)
 
 pub t_enclosed : {A : Type 0} {P : List Token → A → Type 0} {E : List Place → Type 0} {read : List Place → ReadIn A} (l r : Symbol) (stop : ℕ) → ((at : ℕ) (us : List Place) → E (place (symbol r) at ∷ us)) → CompleteTree P E read
     → CompleteTree (Within l r P) Any (λ ts. expect l stop ts >>= λ rest. closed_by r stop (read rest))

@@ -21,7 +21,9 @@ use Rattle.pm_script.specs.declared.sentence.Sentence.{Sentence}
 use Rattle.pm_script.specs.declared.sentence.Sentence.TheVariants as sentence
 use Rattle.pm_script.specs.declared.words.SentenceForm.{SentenceForm}
 use Rattle.pm_script.specs.declared.words.SentenceForm.TheVariants as form
-use Rattle.pm_script.specs.Words.{bytes, sentence_form_of}
+use Rattle.pm_tokens.specs.Words.{lookup}
+use Rattle.pm_script.specs.Words.{bytes, sentence_words, sentence_form_of}
+use lib.Utf8.{encode}
 use Rattle.pm_script.specs.SentenceReading.{Deeps, ReadIn, too_deep, carried, param_in, next_param, some_params, params, directive_in, brace_in, body_in, grouped_params, defined, predicate, conclusion, statement, statement_tree, lemma, undo, formed, sentence_in, no_deep, sentence_of}
 use Rattle.pm_grammar.specs.FormulaGrammar.{End, IsFormula}
 use Rattle.pm_grammar.specs.ReadingLaws.{tokens_at}
@@ -37,7 +39,6 @@ use Rattle.pm_script_grammar.proofs.Complete.{Okay, sees_itself, then_okay, at_o
 use Rattle.pm_script_grammar.proofs.PatternsRead.{made_okay}
 use Rattle.pm_script_grammar.proofs.QuotedRead.{c_enclosed}
 use Rattle.pm_script_grammar.proofs.PartsRead.{t_formula, entails_formula, end_formula, ends_either, okay}
-use Rattle.pm_script_grammar.proofs.KnownWords as words
 use Rattle.pm_script_grammar.proofs.DirectivesRead.{DirectiveRead, directive_read}
 
 -- ---- parameters
@@ -240,17 +241,17 @@ module _ (stop : ℕ) (preds : List Pred) (names : Names) where
   leave_read o = (None, inl refl)
 
   in_read : (ys : List Token) (x : Sentence) → IsSentence preds names ys x → InRead ys x
-  unfolding formed
-  in_read _ _ (g.predicate {e = e} p xs {ts = ts} {f = f} differ h) = by_word (bytes "Predicate") form.Predicate (name p ∷ (in_parentheses (params_as xs) ++ symbol s.Defines ∷ ts)) (sentence.Predicate p xs f) words.word_predicate (predicate_read p xs e ts f differ h)
-  in_read _ _ (g.lemma {e = e} n {ts = ts} {f = f} h) = by_word (bytes "Lemma") form.Lemma (name n ∷ symbol s.Colon ∷ ts) (sentence.Lemma n f) words.word_lemma (lemma_read n ts f (single_read e ts f h))
-  in_read _ _ (g.entailment {e = e} {h = h} n {xs = xs} {ys = ys} {f = f} {g = q} is-f is-q) = by_word (bytes "Lemma") form.Lemma (name n ∷ symbol s.Colon ∷ (xs ++ symbol s.Entails ∷ ys)) (sentence.Lemma n (formula.Wand f q)) words.word_lemma (lemma_read n (xs ++ symbol s.Entails ∷ ys) (formula.Wand f q) (both_read e h xs ys f q is-f is-q))
-  in_read ys x g.proof = by_word (bytes "Proof") form.Proof [] sentence.Proof words.word_proof (λ o. alone_read sentence.Proof)
-  in_read ys x g.qed = by_word (bytes "Qed") form.Qed [] sentence.Qed words.word_qed (λ o. alone_read sentence.Qed)
-  in_read ys x g.abort = by_word (bytes "Abort") form.Abort [] sentence.Abort words.word_abort (λ o. alone_read sentence.Abort)
-  in_read ys x g.restart = by_word (bytes "Restart") form.Restart [] sentence.Restart words.word_restart (λ o. alone_read sentence.Restart)
-  in_read ys x g.show = by_word (bytes "Show") form.Show [] sentence.Show words.word_show (λ o. alone_read sentence.Show)
-  in_read ys x g.undo = by_word (bytes "Undo") form.Undo [] (sentence.Undo 1) words.word_undo undo_read
-  in_read ys x (g.undo_steps {n = n} low) = by_word (bytes "Undo") form.Undo (number n ∷ []) (sentence.Undo n) words.word_undo (undo_steps_read n low)
+  unfolding formed encode lookup sentence_words sentence_form_of
+  in_read _ _ (g.predicate {e = e} p xs {ts = ts} {f = f} differ h) = by_word (bytes "Predicate") form.Predicate (name p ∷ (in_parentheses (params_as xs) ++ symbol s.Defines ∷ ts)) (sentence.Predicate p xs f) refl (predicate_read p xs e ts f differ h)
+  in_read _ _ (g.lemma {e = e} n {ts = ts} {f = f} h) = by_word (bytes "Lemma") form.Lemma (name n ∷ symbol s.Colon ∷ ts) (sentence.Lemma n f) refl (lemma_read n ts f (single_read e ts f h))
+  in_read _ _ (g.entailment {e = e} {h = h} n {xs = xs} {ys = ys} {f = f} {g = q} is-f is-q) = by_word (bytes "Lemma") form.Lemma (name n ∷ symbol s.Colon ∷ (xs ++ symbol s.Entails ∷ ys)) (sentence.Lemma n (formula.Wand f q)) refl (lemma_read n (xs ++ symbol s.Entails ∷ ys) (formula.Wand f q) (both_read e h xs ys f q is-f is-q))
+  in_read ys x g.proof = by_word (bytes "Proof") form.Proof [] sentence.Proof refl (λ o. alone_read sentence.Proof)
+  in_read ys x g.qed = by_word (bytes "Qed") form.Qed [] sentence.Qed refl (λ o. alone_read sentence.Qed)
+  in_read ys x g.abort = by_word (bytes "Abort") form.Abort [] sentence.Abort refl (λ o. alone_read sentence.Abort)
+  in_read ys x g.restart = by_word (bytes "Restart") form.Restart [] sentence.Restart refl (λ o. alone_read sentence.Restart)
+  in_read ys x g.show = by_word (bytes "Show") form.Show [] sentence.Show refl (λ o. alone_read sentence.Show)
+  in_read ys x g.undo = by_word (bytes "Undo") form.Undo [] (sentence.Undo 1) refl undo_read
+  in_read ys x (g.undo_steps {n = n} low) = by_word (bytes "Undo") form.Undo (number n ∷ []) (sentence.Undo n) refl (undo_steps_read n low)
   in_read ys x g.enter = enter_read
   in_read ys x g.leave = leave_read
   in_read _ _ (g.directive {w = w} {ts = ts} {x = x} h) = by_directive w ts x (directive_read stop (callables 0 preds) names w ts x h)

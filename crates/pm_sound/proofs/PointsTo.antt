@@ -1,18 +1,19 @@
 -- Points-to.
-use Rattle.std.proofs.Common.{◌≡◌, ℕ, ◌≤◌, ◌<◌, ◌+◌, ◌-◌, List, ◌∷◌, ℤ, pos, ◌+ℤ◌, ◌-ℤ◌, ◌*ℤ◌, neg_ℤ, refl, sym, ap, ap₂, ◌∙◌, arith, subst, le_refl, lit≤}
+use Rattle.std.proofs.Common.{◌≡◌, ℕ, ◌≤◌, ◌<◌, ◌+◌, ◌-◌, ◌∷◌, ℤ, pos, refl, sym, ap, ◌∙◌, arith, subst, le_refl, lit≤}
 use Rattle.pm_logic.specs.declared.formula.Formula.{Formula}
 use Rattle.pm_logic.specs.declared.formula.Formula.TheVariants.{Pure as Fact, Pts}
 use Rattle.pm_logic.specs.declared.formula.Preds.{Preds}
 use Rattle.pm_logic.specs.declared.formula.Pure.TheVariants.{False, Eq}
 use Rattle.pm_logic.specs.declared.formula.Term.{Term}
-use Rattle.pm_logic.specs.declared.formula.Term.TheVariants.{Lit, Var}
+use Rattle.pm_logic.specs.declared.formula.Term.TheVariants.{Var}
 use Rattle.pm_logic.specs.declared.formula.TheConstants.{UNIT}
-use Rattle.pm_logic.specs.Trees.{add, sub, neg, scale, Sep, Ex, Upd}
+use Rattle.pm_logic.specs.Trees.{Sep, Ex, Upd}
 use Rattle.pm_logic.specs.Substitution.{raised}
 use Rattle.pm_logic.specs.Values.{eval}
 use Rattle.pm_model.specs.Resource.{Content, Empty, Has, plus, IsValid, Compatible}
 use Rattle.pm_model.specs.Forcing.{HasAtLeast}
 use Rattle.pm_model.specs.Entailment.{IsTrueEntailment}
+use Rattle.pm_model.proofs.Values.{raised_value}
 use Rattle.pm_model.proofs.Single.{single, single_at, single_joins, fresh_at, put, put_at, split_at}
 
 -- ---- one location
@@ -46,14 +47,6 @@ whole_valid = (lit≤ tt, le_refl UNIT)
 
 has_whole : (v w : ℤ) (c : Content) → c ≡ Has UNIT v → v ≡ w → HasAtLeast c UNIT w
 has_whole v w c e d = subst (λ x. HasAtLeast x UNIT w) (sym e) (le_refl UNIT, d)
-
-raised_value : (z : ℤ) (env : List ℤ) (t : Term) → eval (z ∷ env) (raised t) ≡ eval env t
-raised_value z env (Lit x) = refl
-raised_value z env (Var i) = refl
-raised_value z env (add s t) = ap₂ (λ x y. x +ℤ y) (raised_value z env s) (raised_value z env t)
-raised_value z env (sub s t) = ap₂ (λ x y. x -ℤ y) (raised_value z env s) (raised_value z env t)
-raised_value z env (neg t) = ap neg_ℤ (raised_value z env t)
-raised_value z env (scale x t) = ap (λ y. x *ℤ y) (raised_value z env t)
 
 -- ---- the rules
 

@@ -17,19 +17,9 @@ pub record PartsLeft {A : Type 0} (goes_on : List Place → Bool) (part : List P
   pub within : turn ≤ count
   pub same : all ≡ after done (parts (count - turn) goes_on part rest)
 
-whole : {A : Type 0} (r : Read (List A)) → r ≡ after [] r
-whole (Ok xs) = refl
-whole (Err f) = refl
-
 none_left : {A : Type 0} (done : List A) → done ++ [] ≡ done
 none_left [] = refl
 none_left (x ∷ done) = ap (λ xs. x ∷ xs) (none_left done)
-
-pub many_begun : {A : Type 0} (goes_on : List Place → Bool) (part : List Place → Read A) (ts : List Place) → PartsLeft goes_on part (many goes_on part ts) (length ts) [] 0 ts
-unfolding many
-many_begun goes_on part ts =
-    let all : length ts - 0 ≡ length ts = omega arith in
-    record { within = omega arith; same = whole (parts (length ts) goes_on part ts) ∙ ap (λ n. after [] (parts n goes_on part ts)) (sym all) }
 
 with_commas_at : {A : Type 0} (part : List Place → Read A) (ts : List Place) (x : A) (rest : List Place) → part ts ≡ Ok (x, rest) → PartsLeft (sees s.Comma) (λ us. part (drop 1 us)) (with_commas part ts) (length rest) (x ∷ []) 0 rest
 unfolding with_commas many

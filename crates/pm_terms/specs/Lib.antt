@@ -1,3 +1,4 @@
+pub mod Operands
 pub mod PureReading
 pub mod Scope
 pub mod Steps

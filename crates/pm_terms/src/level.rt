@@ -3,7 +3,7 @@
 use pm_logic::Term;
 
 /// A prefix of an operand in a term.
-#[derive(Clone, Copy, Debug, PartialEq, Eq)]
+#[derive(Clone, Copy)]
 pub enum Sign {
     /// The literal and the sign of a product.
     Times(i64),
@@ -12,15 +12,23 @@ pub enum Sign {
 }
 
 /// What stands before the last plus or minus of a sum, with it.
-#[derive(Debug, Drop)]
 pub enum Before {
     Nothing,
     Plus(Term),
     Minus(Term),
 }
 
+impl Drop for Before {
+    fn drop(self) {
+        match self {
+            Before::Nothing => {}
+            Before::Plus(a) | Before::Minus(a) => drop(a),
+        }
+    }
+}
+
 /// A comparison of two terms.
-#[derive(Clone, Copy, Debug, PartialEq, Eq)]
+#[derive(Clone, Copy, PartialEq, Eq)]
 pub enum Comparison {
     Equal,
     AtMost,
@@ -31,7 +39,7 @@ pub enum Comparison {
 }
 
 /// What of a pure formula is read.
-#[derive(Clone, Copy, Debug, PartialEq, Eq)]
+#[derive(Clone, Copy, PartialEq, Eq)]
 pub enum PureLevel {
     /// A pure formula.
     Ors,

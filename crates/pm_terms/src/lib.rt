@@ -20,6 +20,3 @@ pub use steps::{
     after_group, behind, expect, is_symbol, is_whole, offset, sees, sees_number, unexpected,
 };
 pub use terms::{deep_term, operand_in, sum_in, sums_in};
-
-#[cfg(test)]
-mod tests;

@@ -15,10 +15,9 @@ use crate::fault::TextFault;
 use crate::level::{Comparison, PureLevel};
 use crate::steps::{after_group, behind, expect, sees, unexpected};
 use crate::terms::{deep_term, sum_in};
-use pm_logic::{Pure, Term};
+use pm_logic::{Memory, Pure, Term, pure_and, pure_not, pure_or};
 use pm_tokens::{Placed, Symbol, Token};
-use sqlite_items::Boxed;
-use std::alloc::{AllocError, Global};
+use std::alloc::Global;
 
 /// A pure formula, and the tokens behind it.
 pub type ReadPure<'a, 'b> = Result<(Pure, &'a [Placed<'b>]), TextFault>;
@@ -48,14 +47,14 @@ fn comparison_of(symbol: Symbol) -> Option<Comparison>
 
 /// The comparison of two terms. The error is want of memory.
 #[tactic(auto, unfolding(crate::specs::PureReading::compared))]
-fn compared(alloc: Global, sign: Comparison, a: Term, b: Term) -> Result<Pure, AllocError>
+fn compared(alloc: Global, sign: Comparison, a: Term, b: Term) -> Result<Pure, Memory>
     ensures { IfOk result (λ p. p ≡ compared sign a b) }
 {
     match sign {
         Comparison::Equal => Ok(Pure::Eq(a, b)),
         Comparison::AtMost => Ok(Pure::Le(a, b)),
         Comparison::Below => Ok(Pure::Lt(a, b)),
-        Comparison::Differs => Ok(Pure::Not(Boxed::new(alloc, Pure::Eq(a, b))?)),
+        Comparison::Differs => pure_not(alloc, Pure::Eq(a, b)),
         Comparison::AtLeast => Ok(Pure::Le(b, a)),
         Comparison::Above => Ok(Pure::Lt(b, a)),
     }
@@ -94,7 +93,7 @@ fn comparison_at<'a, 'b>(
     tokens: &'a [Placed<'b>],
 ) -> ReadPure<'a, 'b>
     requires { length bound.now + room < 1000 }
-    ensures { Gives (λ x. (x.0, places x.1.now)) result (comparison_at context.now.stop (names_in bound.now context.now.vars.now) (pure_in context.now.stop (names_in bound.now context.now.vars.now) room) room (places tokens.now)) }
+    ensures { Gives (λ x. (x.0, places x.1.now)) result (comparison_at context.now.stop (names_in bound.now context.now.vars) (pure_in context.now.stop (names_in bound.now context.now.vars) room) room (places tokens.now)) }
 {
     let (a, rest) = sum_in(context, room + 1, bound, tokens)?;
     let Some(sign) = next_comparison(rest) else {
@@ -111,7 +110,7 @@ fn comparison_at<'a, 'b>(
 #[tactic(auto, unfolding(crate::specs::PureReading::deep_pure))]
 pub fn deep_pure(context: &Context<'_>, bound: &[&[u8]], tokens: &[Placed<'_>]) -> TextFault
     requires { length bound.now ≤ 1000 }
-    ensures { result ≡ deep_pure context.now.stop (names_in bound.now context.now.vars.now) (places tokens.now) }
+    ensures { result ≡ deep_pure context.now.stop (names_in bound.now context.now.vars) (places tokens.now) }
 {
     let [first, ..] = tokens else {
         return deep_term(context, bound, tokens);
@@ -138,10 +137,10 @@ fn negation<'a, 'b>(
     tokens: &'a [Placed<'b>],
 ) -> ReadPure<'a, 'b>
     requires { length bound.now + room < 1000 }
-    ensures { Gives (λ x. (x.0, places x.1.now)) result (made pure.Not (pure_in context.now.stop (names_in bound.now context.now.vars.now) room levels.Literals (places tokens.now))) }
+    ensures { Gives (λ x. (x.0, places x.1.now)) result (made pure.Not (pure_in context.now.stop (names_in bound.now context.now.vars) room levels.Literals (places tokens.now))) }
 {
     let (inner, rest) = pure_in(context, room, PureLevel::Literals, bound, tokens)?;
-    Ok((Pure::Not(Boxed::new(context.alloc, inner)?), rest))
+    Ok((pure_not(context.alloc, inner)?, rest))
 }
 
 /// A pure formula in parentheses, from behind the one that opens.
@@ -154,7 +153,7 @@ fn group<'a, 'b>(
     tokens: &'a [Placed<'b>],
 ) -> ReadPure<'a, 'b>
     requires { length bound.now + room < 1000 }
-    ensures { Gives (λ x. (x.0, places x.1.now)) result (closed_by Close context.now.stop (pure_in context.now.stop (names_in bound.now context.now.vars.now) room levels.Ors (places tokens.now))) }
+    ensures { Gives (λ x. (x.0, places x.1.now)) result (closed_by Close context.now.stop (pure_in context.now.stop (names_in bound.now context.now.vars) room levels.Ors (places tokens.now))) }
 {
     let (inner, rest) = pure_in(context, room, PureLevel::Ors, bound, tokens)?;
     let rest = expect(Symbol::Close, context.stop, rest)?;
@@ -171,7 +170,7 @@ fn literal_at<'a, 'b>(
     tokens: &'a [Placed<'b>],
 ) -> ReadPure<'a, 'b>
     requires { length bound.now + room < 1000 }
-    ensures { Gives (λ x. (x.0, places x.1.now)) result (literal_at context.now.stop (names_in bound.now context.now.vars.now) (pure_in context.now.stop (names_in bound.now context.now.vars.now) room) room (places tokens.now)) }
+    ensures { Gives (λ x. (x.0, places x.1.now)) result (literal_at context.now.stop (names_in bound.now context.now.vars) (pure_in context.now.stop (names_in bound.now context.now.vars) room) room (places tokens.now)) }
 {
     let [first, rest @ ..] = tokens else {
         return comparison_at(context, room, bound, tokens);
@@ -206,12 +205,12 @@ fn sees_infix(level: PureLevel, tokens: &[Placed<'_>]) -> bool
 }
 
 /// The two joined by the infix of the level, and the first where there is none. The error is want of memory.
-fn joined(alloc: Global, level: PureLevel, a: Pure, b: Pure) -> Result<Pure, AllocError>
+fn joined(alloc: Global, level: PureLevel, a: Pure, b: Pure) -> Result<Pure, Memory>
     ensures { IfOk result (λ p. p ≡ joined level a b) }
 {
     match level {
-        PureLevel::Ors => Ok(Pure::Or(Boxed::new(alloc, a)?, Boxed::new(alloc, b)?)),
-        PureLevel::Ands => Ok(Pure::And(Boxed::new(alloc, a)?, Boxed::new(alloc, b)?)),
+        PureLevel::Ors => pure_or(alloc, a, b),
+        PureLevel::Ands => pure_and(alloc, a, b),
         PureLevel::Literals => Ok(a),
     }
 }
@@ -228,7 +227,7 @@ fn infix_at<'a, 'b>(
     tokens: &'a [Placed<'b>],
 ) -> ReadPure<'a, 'b>
     requires { length bound.now + room < 1000 }
-    ensures { Gives (λ x. (x.0, places x.1.now)) result (infix_at context.now.stop (names_in bound.now context.now.vars.now) (pure_in context.now.stop (names_in bound.now context.now.vars.now) room) room level left (places tokens.now)) }
+    ensures { Gives (λ x. (x.0, places x.1.now)) result (infix_at context.now.stop (names_in bound.now context.now.vars) (pure_in context.now.stop (names_in bound.now context.now.vars) room) room level left (places tokens.now)) }
 {
     if !sees_infix(level, tokens) {
         return Ok((left, tokens));
@@ -247,7 +246,7 @@ fn ands_at<'a, 'b>(
     tokens: &'a [Placed<'b>],
 ) -> ReadPure<'a, 'b>
     requires { length bound.now + room < 1000 }
-    ensures { Gives (λ x. (x.0, places x.1.now)) result (ands_at context.now.stop (names_in bound.now context.now.vars.now) (pure_in context.now.stop (names_in bound.now context.now.vars.now) room) room (places tokens.now)) }
+    ensures { Gives (λ x. (x.0, places x.1.now)) result (ands_at context.now.stop (names_in bound.now context.now.vars) (pure_in context.now.stop (names_in bound.now context.now.vars) room) room (places tokens.now)) }
 {
     let (left, rest) = literal_at(context, room, bound, tokens)?;
     infix_at(context, room, PureLevel::Ands, bound, left, rest)
@@ -264,7 +263,7 @@ fn pure_at<'a, 'b>(
     tokens: &'a [Placed<'b>],
 ) -> ReadPure<'a, 'b>
     requires { length bound.now + room < 1000 }
-    ensures { Gives (λ x. (x.0, places x.1.now)) result (pure_at context.now.stop (names_in bound.now context.now.vars.now) (pure_in context.now.stop (names_in bound.now context.now.vars.now) room) room level (places tokens.now)) }
+    ensures { Gives (λ x. (x.0, places x.1.now)) result (pure_at context.now.stop (names_in bound.now context.now.vars) (pure_in context.now.stop (names_in bound.now context.now.vars) room) room level (places tokens.now)) }
 {
     match level {
         PureLevel::Ors => {
@@ -287,7 +286,7 @@ pub fn pure_in<'a, 'b>(
     tokens: &'a [Placed<'b>],
 ) -> ReadPure<'a, 'b>
     requires { length bound.now + room ≤ 1000 }
-    ensures { Gives (λ x. (x.0, places x.1.now)) result (pure_in context.now.stop (names_in bound.now context.now.vars.now) room level (places tokens.now)) }
+    ensures { Gives (λ x. (x.0, places x.1.now)) result (pure_in context.now.stop (names_in bound.now context.now.vars) room level (places tokens.now)) }
 {
     if room == 0 {
         Err(deep_pure(context, bound, tokens))

@@ -8,25 +8,11 @@ ghost use Rattle.pm_terms.specs.TermReading.{variable_at};
 
 use crate::context::{Callee, Context};
 use crate::fault::TextFault;
-use pm_logic::{Name, Pred};
+use pm_logic::Pred;
+use pm_name_sets::NameIndex;
 
 /// The place of a name among the variables outside the text, counted from `from`.
-fn find_outside(name: &[u8], mut from: usize, mut vars: &[Name]) -> Option<usize>
-    requires { from + length vars.now < 2 ^ 64 }
-    ensures place { result ≡ position_from (bytes_eq name.now) from vars.entry.now }
-    ensures within { IfSome result (λ i. i < from + length vars.entry.now) }
-{
-    while let [first, rest @ ..] = vars {
-        if name == first.bytes() {
-            return Some(from);
-        }
-        from += 1;
-        vars = rest;
-    }
-    None
-}
-
-fn find(name: &[u8], bound: &[&[u8]], vars: &[Name]) -> Option<usize>
+fn find(name: &[u8], bound: &[&[u8]], vars: &NameIndex<'_>) -> Option<usize>
     requires { length bound.now + length vars.now < 2 ^ 64 }
     ensures place { result ≡ position_from (bytes_eq name.now) 0 (names_in bound.now vars.now) }
     ensures within { IfSome result (λ i. i < length bound.now + length vars.now) }
@@ -38,16 +24,16 @@ fn find(name: &[u8], bound: &[&[u8]], vars: &[Name]) -> Option<usize>
         }
         depth -= 1;
     }
-    find_outside(name, bound.len(), vars)
+    vars.place(bound.len(), name)
 }
 
 /// The index of the variable of this name: the innermost of those bound in the text, else the first of those outside.
 #[tactic(auto, unfolding(crate::specs::Scope::variable_of))]
 pub fn variable_of(context: &Context<'_>, bound: &[&[u8]], name: &[u8]) -> Option<u32>
     requires { length bound.now ≤ 1000 }
-    ensures { result ≡ variable_of (names_in bound.now context.now.vars.now) name.now }
+    ensures { result ≡ variable_of (names_in bound.now context.now.vars) name.now }
 {
-    match find(name, bound, context.vars) {
+    match find(name, bound, &context.vars) {
         Some(index) => Some(index as u32),
         None => None,
     }
@@ -62,7 +48,7 @@ pub fn variable_at(
     at: usize,
 ) -> Result<u32, TextFault>
     requires { length bound.now ≤ 1000 }
-    ensures { result ≡ variable_at context.now.stop (names_in bound.now context.now.vars.now) name.now at }
+    ensures { result ≡ variable_at context.now.stop (names_in bound.now context.now.vars) name.now at }
 {
     match variable_of(context, bound, name) {
         Some(index) => Ok(index),

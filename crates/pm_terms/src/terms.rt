@@ -1,13 +1,15 @@
 //! Terms. `room` is how many constructs may still be opened, and `bound` are the names bound in the text, the innermost
 //! last.
 
-ghost use Rattle.std.specs.Prelude.{◌≡◌, ◌+◌, ◌≤◌, [], length, IfOk};
+ghost use Rattle.std.specs.Prelude.{◌≡◌, ◌+◌, ◌≤◌, [], ◌∷◌, ◌++◌, drop, length, IfOk};
 ghost use Rattle.pm_tokens.specs.Tokens.{places};
+ghost use Rattle.pm_terms.specs.Operands.{scaled, summand};
 ghost use Rattle.pm_terms.specs.Scope.{names_in};
 ghost use Rattle.pm_terms.specs.Steps.{Gives, closed_by, with_commas};
 ghost use Rattle.pm_terms.specs.TermReading.{signed, added, deep_term, operand_at, sum_at, term_at, term_in, operand_in, sum_in};
 ghost use Rattle.pm_tokens.specs.declared.symbol.Symbol.TheVariants.{Close};
 ghost use Rattle.pm_terms.specs.declared.level.Before.TheVariants as before;
+ghost use Rattle.pm_terms.specs.declared.level.Sign.TheVariants as sign;
 
 use crate::context::Context;
 use crate::fault::TextFault;
@@ -15,10 +17,9 @@ use crate::level::{Before, Sign};
 use crate::literals::{begins_negation, begins_scale, literal, positive};
 use crate::scope::variable_at;
 use crate::steps::{behind, expect, sees};
-use pm_logic::{List, Term};
+use pm_logic::{List, Memory, Term, add, copy_term, neg, scale, sub};
 use pm_tokens::{Placed, Symbol, Token};
-use sqlite_items::Boxed;
-use std::alloc::{AllocError, Global};
+use std::alloc::Global;
 
 /// A term, and the tokens behind it.
 pub type ReadTerm<'a, 'b> = Result<(Term, &'a [Placed<'b>]), TextFault>;
@@ -28,7 +29,7 @@ pub type ReadTerm<'a, 'b> = Result<(Term, &'a [Placed<'b>]), TextFault>;
 #[tactic(auto, unfolding(crate::specs::TermReading::deep_term))]
 pub fn deep_term(context: &Context<'_>, bound: &[&[u8]], tokens: &[Placed<'_>]) -> TextFault
     requires { length bound.now ≤ 1000 }
-    ensures { result ≡ deep_term context.now.stop (names_in bound.now context.now.vars.now) (places tokens.now) }
+    ensures { result ≡ deep_term context.now.stop (names_in bound.now context.now.vars) (places tokens.now) }
 {
     let [first, ..] = tokens else {
         return TextFault::Unexpected(context.stop as u64);
@@ -54,16 +55,16 @@ pub fn deep_term(context: &Context<'_>, bound: &[&[u8]], tokens: &[Placed<'_>]) 
 
 /// The operand behind its signs, the outermost first.
 #[tactic(auto, unfolding(crate::specs::TermReading::signed))]
-fn signed(alloc: Global, signs: &[Sign], operand: Term) -> Result<Term, AllocError>
+fn signed(alloc: Global, signs: &[Sign], operand: Term) -> Result<Term, Memory>
     ensures { IfOk result (λ t. t ≡ signed signs.now operand) }
 {
     match signs {
         [] => Ok(operand),
         [first, rest @ ..] => {
-            let inner = Boxed::new(alloc, signed(alloc, rest, operand)?)?;
+            let inner = signed(alloc, rest, operand)?;
             match first {
-                Sign::Times(z) => Ok(Term::Scale(*z, inner)),
-                Sign::Minus => Ok(Term::Neg(inner)),
+                Sign::Times(z) => scale(alloc, *z, inner),
+                Sign::Minus => neg(alloc, inner),
             }
         }
     }
@@ -71,19 +72,19 @@ fn signed(alloc: Global, signs: &[Sign], operand: Term) -> Result<Term, AllocErr
 
 /// The product behind what stands before it in its sum.
 #[tactic(auto, unfolding(crate::specs::TermReading::added))]
-fn added(alloc: Global, left: Before, product: Term) -> Result<Term, AllocError>
-    ensures { IfOk result (λ t. t ≡ added left product) }
+fn added(alloc: Global, left: &Before, product: Term) -> Result<Term, Memory>
+    ensures { IfOk result (λ t. t ≡ added left.now product) }
 {
     match left {
         Before::Nothing => Ok(product),
-        Before::Plus(left) => Ok(Term::Add(Boxed::new(alloc, left)?, Boxed::new(alloc, product)?)),
-        Before::Minus(left) => Ok(Term::Sub(Boxed::new(alloc, left)?, Boxed::new(alloc, product)?)),
+        Before::Plus(left) => add(alloc, copy_term(alloc, left)?, product),
+        Before::Minus(left) => sub(alloc, copy_term(alloc, left)?, product),
     }
 }
 
 /// The product of an operand with its signs, behind what stands before it in its sum.
-fn completed(alloc: Global, left: Before, signs: &[Sign], operand: Term) -> Result<Term, AllocError>
-    ensures { IfOk result (λ t. t ≡ added left (signed signs.now operand)) }
+fn completed(alloc: Global, left: &Before, signs: &[Sign], operand: Term) -> Result<Term, Memory>
+    ensures { IfOk result (λ t. t ≡ added left.now (signed signs.now operand)) }
 {
     let product = signed(alloc, signs, operand)?;
     added(alloc, left, product)
@@ -99,7 +100,7 @@ fn group<'a, 'b>(
     tokens: &'a [Placed<'b>],
 ) -> ReadTerm<'a, 'b>
     requires { length bound.now + room ≤ 1000 }
-    ensures { Gives (λ x. (x.0, places x.1.now)) result (closed_by Close context.now.stop (term_in context.now.stop (names_in bound.now context.now.vars.now) room before.Nothing [] (places tokens.now))) }
+    ensures { Gives (λ x. (x.0, places x.1.now)) result (closed_by Close context.now.stop (term_in context.now.stop (names_in bound.now context.now.vars) room before.Nothing [] (places tokens.now))) }
 {
     let none = List::new(context.alloc);
     let (inner, rest) = term_in(context, room, bound, Before::Nothing, none, tokens)?;
@@ -117,7 +118,7 @@ fn operand_at<'a, 'b>(
     tokens: &'a [Placed<'b>],
 ) -> ReadTerm<'a, 'b>
     requires { length bound.now + room ≤ 1000 }
-    ensures { Gives (λ x. (x.0, places x.1.now)) result (operand_at context.now.stop (names_in bound.now context.now.vars.now) (term_in context.now.stop (names_in bound.now context.now.vars.now) room) (places tokens.now)) }
+    ensures { Gives (λ x. (x.0, places x.1.now)) result (operand_at context.now.stop (names_in bound.now context.now.vars) (term_in context.now.stop (names_in bound.now context.now.vars) room) (places tokens.now)) }
 {
     let [first, rest @ ..] = tokens else {
         return Err(TextFault::Unexpected(context.stop as u64));
@@ -150,7 +151,7 @@ fn sum_at<'a, 'b>(
     tokens: &'a [Placed<'b>],
 ) -> ReadTerm<'a, 'b>
     requires { length bound.now + room ≤ 1000 }
-    ensures { Gives (λ x. (x.0, places x.1.now)) result (sum_at context.now.stop (names_in bound.now context.now.vars.now) (term_in context.now.stop (names_in bound.now context.now.vars.now) room) left (places tokens.now)) }
+    ensures { Gives (λ x. (x.0, places x.1.now)) result (sum_at context.now.stop (names_in bound.now context.now.vars) (term_in context.now.stop (names_in bound.now context.now.vars) room) left (places tokens.now)) }
 {
     let none = List::new(context.alloc);
     if sees(Symbol::Plus, tokens) {
@@ -176,6 +177,59 @@ fn sum_at<'a, 'b>(
     }
 }
 
+/// From the factor of a product on, which is one sign more before the operand that comes.
+#[cycle(term)]
+fn scaled<'a, 'b>(
+    context: &Context<'_>,
+    room: u32,
+    bound: &[&[u8]],
+    left: Before,
+    mut signs: List<Sign>,
+    tokens: &'a [Placed<'b>],
+) -> ReadTerm<'a, 'b>
+    requires { length bound.now + room ≤ 1000 }
+    ensures { Gives (λ x. (x.0, places x.1.now)) result (scaled context.now.stop (term_in context.now.stop (names_in bound.now context.now.vars) room) left signs (places tokens.now)) }
+{
+    let (z, rest) = literal(context.stop, tokens)?;
+    signs.push(Sign::Times(z))?;
+    term_in(context, room, bound, left, signs, behind(rest))
+}
+
+/// From the minus of a negation on, which is one sign more before the operand that comes.
+#[cycle(term)]
+fn negated<'a, 'b>(
+    context: &Context<'_>,
+    room: u32,
+    bound: &[&[u8]],
+    left: Before,
+    mut signs: List<Sign>,
+    tokens: &'a [Placed<'b>],
+) -> ReadTerm<'a, 'b>
+    requires { length bound.now + room ≤ 1000 }
+    ensures { Gives (λ x. (x.0, places x.1.now)) result (term_in context.now.stop (names_in bound.now context.now.vars) room left (signs ++ sign.Minus ∷ []) (drop 1 (places tokens.now))) }
+{
+    signs.push(Sign::Minus)?;
+    term_in(context, room, bound, left, signs, behind(tokens))
+}
+
+/// From an operand on, behind all its signs.
+#[cycle(term)]
+fn summand<'a, 'b>(
+    context: &Context<'_>,
+    room: u32,
+    bound: &[&[u8]],
+    left: &Before,
+    signs: &[Sign],
+    tokens: &'a [Placed<'b>],
+) -> ReadTerm<'a, 'b>
+    requires { length bound.now + room ≤ 1000 }
+    ensures { Gives (λ x. (x.0, places x.1.now)) result (summand context.now.stop (names_in bound.now context.now.vars) (term_in context.now.stop (names_in bound.now context.now.vars) room) left.now signs.now (places tokens.now)) }
+{
+    let (operand, rest) = operand_at(context, room, bound, tokens)?;
+    let sum = completed(context.alloc, left, signs, operand)?;
+    sum_at(context, room, bound, sum, rest)
+}
+
 /// The rest of a sum, inside which `room` constructs may be opened: behind what stands before it, and the signs of the
 /// operand that comes.
 #[cycle(term)]
@@ -185,24 +239,19 @@ fn term_at<'a, 'b>(
     room: u32,
     bound: &[&[u8]],
     left: Before,
-    mut signs: List<Sign>,
+    signs: List<Sign>,
     tokens: &'a [Placed<'b>],
 ) -> ReadTerm<'a, 'b>
     requires { length bound.now + room ≤ 1000 }
-    ensures { Gives (λ x. (x.0, places x.1.now)) result (term_at context.now.stop (names_in bound.now context.now.vars.now) (term_in context.now.stop (names_in bound.now context.now.vars.now) room) left signs (places tokens.now)) }
+    ensures { Gives (λ x. (x.0, places x.1.now)) result (term_at context.now.stop (names_in bound.now context.now.vars) (term_in context.now.stop (names_in bound.now context.now.vars) room) left signs (places tokens.now)) }
 {
     if begins_scale(tokens) {
-        let (z, rest) = literal(context.stop, tokens)?;
-        signs.push(Sign::Times(z))?;
-        return term_in(context, room, bound, left, signs, behind(rest));
+        scaled(context, room, bound, left, signs, tokens)
+    } else if begins_negation(tokens) {
+        negated(context, room, bound, left, signs, tokens)
+    } else {
+        summand(context, room, bound, &left, signs.as_slice(), tokens)
     }
-    if begins_negation(tokens) {
-        signs.push(Sign::Minus)?;
-        return term_in(context, room, bound, left, signs, behind(tokens));
-    }
-    let (operand, rest) = operand_at(context, room, bound, tokens)?;
-    let left = completed(context.alloc, left, signs.as_slice(), operand)?;
-    sum_at(context, room, bound, left, rest)
 }
 
 /// The rest of a sum, behind what stands before it and the signs of the operand that comes.
@@ -216,7 +265,7 @@ fn term_in<'a, 'b>(
     tokens: &'a [Placed<'b>],
 ) -> ReadTerm<'a, 'b>
     requires { length bound.now + room ≤ 1000 }
-    ensures { Gives (λ x. (x.0, places x.1.now)) result (term_in context.now.stop (names_in bound.now context.now.vars.now) room left signs (places tokens.now)) }
+    ensures { Gives (λ x. (x.0, places x.1.now)) result (term_in context.now.stop (names_in bound.now context.now.vars) room left signs (places tokens.now)) }
 {
     if room == 0 {
         Err(deep_term(context, bound, tokens))
@@ -234,7 +283,7 @@ pub fn sum_in<'a, 'b>(
     tokens: &'a [Placed<'b>],
 ) -> ReadTerm<'a, 'b>
     requires { length bound.now + room ≤ 1000 }
-    ensures { Gives (λ x. (x.0, places x.1.now)) result (sum_in context.now.stop (names_in bound.now context.now.vars.now) room (places tokens.now)) }
+    ensures { Gives (λ x. (x.0, places x.1.now)) result (sum_in context.now.stop (names_in bound.now context.now.vars) room (places tokens.now)) }
 {
     let signs = List::new(context.alloc);
     term_in(context, room, bound, Before::Nothing, signs, tokens)
@@ -249,7 +298,7 @@ pub fn operand_in<'a, 'b>(
     tokens: &'a [Placed<'b>],
 ) -> ReadTerm<'a, 'b>
     requires { length bound.now + room ≤ 1000 }
-    ensures { Gives (λ x. (x.0, places x.1.now)) result (operand_in context.now.stop (names_in bound.now context.now.vars.now) room (places tokens.now)) }
+    ensures { Gives (λ x. (x.0, places x.1.now)) result (operand_in context.now.stop (names_in bound.now context.now.vars) room (places tokens.now)) }
 {
     if room == 0 {
         Err(deep_term(context, bound, tokens))
@@ -268,7 +317,7 @@ pub fn sums_in<'a, 'b>(
     tokens: &'a [Placed<'b>],
 ) -> Result<(List<Term>, &'a [Placed<'b>]), TextFault>
     requires { length bound.now + room ≤ 1000 }
-    ensures { Gives (λ x. (x.0, places x.1.now)) result (with_commas (sum_in context.now.stop (names_in bound.now context.now.vars.now) room) (places tokens.now)) }
+    ensures { Gives (λ x. (x.0, places x.1.now)) result (with_commas (sum_in context.now.stop (names_in bound.now context.now.vars) room) (places tokens.now)) }
 {
     let (first, behind_first) = sum_in(context, room, bound, tokens)?;
     let mut terms = List::new(context.alloc);

@@ -1,5 +1,4 @@
-pub mod BoundNames
 pub mod Callees
 pub mod CountedFrom
-mod Examples
+pub mod FewTokens
 pub mod SymbolCases

@@ -26,7 +26,7 @@ use Rattle.pm_text.specs.FormulaReading.{Formulas, units_of, is_share, begins_lo
 -- ---- what a text is read with
 
 abbrev pub scope : Context → List (Bor (List ℕ)) → Names
-scope context bound = names_in bound context.vars.now
+scope context bound = names_in bound context.vars
 
 abbrev pub table : Context → Callables
 table context = callables_of context.own context.preds.now

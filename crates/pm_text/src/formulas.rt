@@ -282,7 +282,7 @@ fn behind_name<'a, 'b>(
 
 /// From behind a name on that a quantifier binds.
 #[cycle(formulas)]
-#[tactic(auto, using(crate::proofs::BoundNames::names_push))]
+#[tactic(auto, using(pm_terms::proofs::Bound::names_in_push))]
 fn with_name<'a, 'b>(
     context: &Context<'_>,
     room: u32,

@@ -5,10 +5,9 @@ ghost use Rattle.pm_tokens.specs.Tokens.{places};
 ghost use Rattle.pm_text.specs.FormulaReading as spec;
 
 use crate::level::{Binder, Infix, Level};
-use pm_logic::Formula;
+use pm_logic::{Formula, Memory, all, and, ex, imp, or, sep, upd, wand};
 use pm_tokens::{Placed, Symbol, Token};
-use sqlite_items::Boxed;
-use std::alloc::{AllocError, Global};
+use std::alloc::Global;
 
 #[tactic(auto, unfolding(crate::specs::FormulaReading::infix_of))]
 fn infix_of(level: Level, symbol: Symbol) -> Option<Infix>
@@ -53,37 +52,29 @@ pub fn right_of(sign: Infix) -> Level
 
 /// Both sides joined by the infix.
 #[tactic(auto, unfolding(crate::specs::FormulaReading::joined))]
-pub fn joined(
-    alloc: Global,
-    sign: Infix,
-    left: Formula,
-    right: Formula,
-) -> Result<Formula, AllocError>
+pub fn joined(alloc: Global, sign: Infix, left: Formula, right: Formula) -> Result<Formula, Memory>
     ensures { IfOk result (λ f. f ≡ spec.joined sign left right) }
 {
-    let left = Boxed::new(alloc, left)?;
-    let right = Boxed::new(alloc, right)?;
     match sign {
-        Infix::Wand => Ok(Formula::Wand(left, right)),
+        Infix::Wand => wand(alloc, left, right),
         Infix::UpdateWand => {
-            let right = Boxed::new(alloc, Formula::Upd(right))?;
-            Ok(Formula::Wand(left, right))
+            let right = upd(alloc, right)?;
+            wand(alloc, left, right)
         }
-        Infix::Implies => Ok(Formula::Imp(left, right)),
-        Infix::Or => Ok(Formula::Or(left, right)),
-        Infix::And => Ok(Formula::And(left, right)),
-        Infix::Star => Ok(Formula::Sep(left, right)),
+        Infix::Implies => imp(alloc, left, right),
+        Infix::Or => or(alloc, left, right),
+        Infix::And => and(alloc, left, right),
+        Infix::Star => sep(alloc, left, right),
     }
 }
 
 /// The body under the quantifier.
 #[tactic(auto, unfolding(crate::specs::FormulaReading::quantified))]
-pub fn quantified(alloc: Global, binder: Binder, body: Formula) -> Result<Formula, AllocError>
+pub fn quantified(alloc: Global, binder: Binder, body: Formula) -> Result<Formula, Memory>
     ensures { IfOk result (λ f. f ≡ spec.quantified binder body) }
 {
-    let body = Boxed::new(alloc, body)?;
     match binder {
-        Binder::All => Ok(Formula::All(body)),
-        Binder::Ex => Ok(Formula::Ex(body)),
+        Binder::All => all(alloc, body),
+        Binder::Ex => ex(alloc, body),
     }
 }

@@ -1,14 +1,14 @@
 //! What of a formula is read next.
 
 /// Which quantifier binds.
-#[derive(Clone, Copy, Debug, PartialEq, Eq)]
+#[derive(Clone, Copy, PartialEq, Eq)]
 pub enum Binder {
     All,
     Ex,
 }
 
 /// What of a formula is read.
-#[derive(Clone, Copy, Debug, PartialEq, Eq)]
+#[derive(Clone, Copy, PartialEq, Eq)]
 pub enum Level {
     /// A formula.
     Wands,
@@ -25,7 +25,7 @@ pub enum Level {
 }
 
 /// An infix of formulas.
-#[derive(Clone, Copy, Debug, PartialEq, Eq)]
+#[derive(Clone, Copy, PartialEq, Eq)]
 pub enum Infix {
     Wand,
     UpdateWand,

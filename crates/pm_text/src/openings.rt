@@ -4,13 +4,12 @@ ghost use Rattle.std.specs.Prelude.{◌≡◌, IfOk};
 ghost use Rattle.pm_text.specs.Parts.{opening_of, is_formula_only, level_under, under};
 
 use crate::level::{Binder, Level};
-use pm_logic::Formula;
+use pm_logic::{Formula, Memory, later, pers, upd};
 use pm_tokens::Symbol;
-use sqlite_items::Boxed;
-use std::alloc::{AllocError, Global};
+use std::alloc::Global;
 
 /// A modality.
-#[derive(Clone, Copy, Debug, PartialEq, Eq)]
+#[derive(Clone, Copy, PartialEq, Eq)]
 pub enum Modality {
     Later,
     Persistently,
@@ -18,7 +17,7 @@ pub enum Modality {
 }
 
 /// What the first symbol of an operand opens.
-#[derive(Clone, Copy, Debug, PartialEq, Eq)]
+#[derive(Clone, Copy, PartialEq, Eq)]
 pub enum Opening {
     Modal(Modality),
     Quantifier(Binder),
@@ -76,13 +75,12 @@ pub fn level_under(modality: Modality) -> Level
 
 /// The formula under the modality.
 #[tactic(auto, unfolding(crate::specs::Parts::under))]
-pub fn under(alloc: Global, modality: Modality, inner: Formula) -> Result<Formula, AllocError>
+pub fn under(alloc: Global, modality: Modality, inner: Formula) -> Result<Formula, Memory>
     ensures { IfOk result (λ f. f ≡ under modality inner) }
 {
-    let inner = Boxed::new(alloc, inner)?;
     match modality {
-        Modality::Later => Ok(Formula::Later(inner)),
-        Modality::Persistently => Ok(Formula::Pers(inner)),
-        Modality::Update => Ok(Formula::Upd(inner)),
+        Modality::Later => later(alloc, inner),
+        Modality::Persistently => pers(alloc, inner),
+        Modality::Update => upd(alloc, inner),
     }
 }

@@ -189,18 +189,3 @@ lex_rises mode zero at (b ∷ bs) = go (λ m left. lex_rises m left (at + 1) bs)
     go later None = omega arith
     go later (Some (gap, n)) = lower at _ _ (later mode (n - 1))
     go later (Some (token t, n)) = (omega arith, later (after mode t) (n - 1))
-
-pub lex_within : (mode : Mode) (left at : ℕ) (bs : List ℕ) → (lex mode left at bs).1 ≤ at + length bs
-unfolding lex
-lex_within mode zero at [] = omega arith
-lex_within mode (suc left) at [] = omega arith
-lex_within mode (suc left) at (b ∷ bs) = let h = lex_within mode left (at + 1) bs in omega (arith, h)
-lex_within mode zero at (b ∷ bs) = go (λ m left. lex_within m left (at + 1) bs) (first_piece mode (b ∷ bs))
-  where
-    next : Mode → ℕ → Lexed
-    next m left = lex m left (at + 1) bs
-
-    go : ((m : Mode) (left : ℕ) → (next m left).1 ≤ at + 1 + length bs) → (o : Option (Piece × ℕ)) → (lex_by mode at o next).1 ≤ at + suc (length bs)
-    go later None = omega arith
-    go later (Some (gap, n)) = let h = later mode (n - 1) in omega (arith, h)
-    go later (Some (token t, n)) = let h = later (after mode t) (n - 1) in omega (arith, h)

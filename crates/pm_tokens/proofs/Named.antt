@@ -20,10 +20,6 @@ use Rattle.pm_tokens.specs.Pieces.{Piece, gap, token, is_blank, comment, comment
 use Rattle.pm_tokens.specs.Texts.{Lexed, lex, lex_by}
 use Rattle.pm_tokens.proofs.Runs.{run_on}
 
-both_true : (x y : Bool) → (x && y) ≡ true → (x ≡ true) × (y ≡ true)
-both_true true y e = (refl, e)
-both_true false y e = absurd cc
-
 -- ---- the first character
 
 abbrev pub IsChar : List ℕ → ℕ → Type 0

@@ -6,7 +6,8 @@ use lib.Utf8
 use Rattle.pm_names.specs.Names.{is_reserved}
 use Rattle.pm_tokens.specs.declared.symbol.Symbol.{Symbol}
 use Rattle.pm_tokens.specs.declared.symbol.Symbol.TheVariants as s
-use Rattle.pm_tokens.specs.Symbols.{keywords, lookup, keyword}
+use Rattle.pm_tokens.specs.Words.{lookup}
+use Rattle.pm_tokens.specs.Symbols.{keywords, keyword}
 
 -- the keyword of five answers
 abbrev first_of : Bool → Bool → Bool → Bool → Bool → Option Symbol

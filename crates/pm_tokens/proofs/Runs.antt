@@ -1,33 +1,10 @@
 -- The first characters of a text, and runs of characters.
-use Rattle.std.proofs.Common.{◌≡◌, ℕ, zero, suc, ◌+◌, ◌-◌, ◌<◌, ◌≤◌, Bool, true, false, ◌&&◌, List, [], ◌∷◌, ◌++◌, length, length-append, drop, Option, Some, None, refl, sym, ap, ◌∙◌, arith}
-use Rattle.std.specs.Char.{encode_utf8}
+use Rattle.std.proofs.Common.{◌≡◌, ℕ, zero, suc, ◌+◌, ◌-◌, ◌<◌, ◌≤◌, Bool, true, false, List, [], ◌∷◌, length, drop, Option, Some, None, refl, ap, arith}
 use Rattle.std.specs.Str.{IsUtf8, is_utf8, chars}
-use Rattle.std.proofs.lemmas.Str.{chars-encodes, chars-nil, encode_same, length-encode, len_utf8_bounds, is_utf8-from_IsUtf8, IsUtf8-from_is_utf8}
-use lib.Utf8.{scalars, encodes}
+use Rattle.std.proofs.lemmas.Str.{chars-nil, is_utf8-from_IsUtf8, IsUtf8-from_is_utf8}
+use Rattle.pm_names.proofs.Characters.{IsFirst}
 use Rattle.pm_names.specs.Names.{continues_name}
 use Rattle.pm_tokens.specs.Characters.{one, only_char, first_char, run}
-
-pub record IsFirst (bs : List ℕ) (c : ℕ) (rest : List ℕ) : Type 0 where
-  pub all : chars bs ≡ c ∷ chars rest
-  pub utf8 : IsUtf8 rest
-
-both_true : (x y : Bool) → (x && y) ≡ true → (x ≡ true) × (y ≡ true)
-both_true true y e = (refl, e)
-both_true false y e = absurd cc
-
-pub chars_first : (bs rest : List ℕ) (c : ℕ) → IsUtf8 bs → bs ≡ encode_utf8 c ++ rest → IsFirst bs c rest
-chars_first bs rest c u e = go u.0 u.1.0 u.1.1
-  where
-    go : (cs : List ℕ) → scalars cs ≡ true → encodes cs ≡ bs → IsFirst bs c rest
-    go [] s h = absurd (let l : length (encode_utf8 c ++ rest) ≡ 0 = ap length (sym (h ∙ e)) in omega (arith, l, length-append (encode_utf8 c) rest, length-encode c, len_utf8_bounds c))
-    go (d ∷ ds) s h =
-        let same = encode_same d c (encodes ds) rest (h ∙ e) in
-        let tail : scalars ds ≡ true = (both_true _ _ s).1 in
-        let back : chars rest ≡ ds = ap chars (sym same.1) ∙ chars-encodes ds tail in
-        record {
-          all = ap chars (sym h) ∙ (chars-encodes (d ∷ ds) s ∙ (ap (λ x. x ∷ ds) same.0 ∙ ap (λ y. c ∷ y) (sym back)));
-          utf8 = (ds, (tail, same.1));
-        }
 
 pub one_none : (bs : List ℕ) → length bs ≡ 0 → None ≡ one (chars bs)
 one_none [] e = rw chars-nil refl

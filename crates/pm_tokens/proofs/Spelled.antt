@@ -11,6 +11,7 @@ use Rattle.std.proofs.lemmas.List.{append-nil, take-append-drop, take-append-le,
 use Rattle.std.proofs.lemmas.Str.{chars-encodes, encode_same, length-encode, len_utf8_bounds, char_from_byte, is_utf8-from_IsUtf8, IsUtf8-from_is_utf8}
 use Rattle.unicode_ident.proofs.IdentLemmas.{is_xid_start-ascii}
 use lib.Utf8.{scalar, scalars, encode, encodes}
+use Rattle.pm_names.proofs.Characters.{both_true}
 use Rattle.pm_names.specs.Names.{starts_name, continues_name}
 use Rattle.pm_tokens.specs.Characters.{one, only_char, front_char, or_else, first_char, run, name_by, name_len, with_len, is_digit, number_of}
 use Rattle.pm_tokens.specs.declared.mode.Mode.{Mode}
@@ -23,10 +24,6 @@ use Rattle.pm_tokens.specs.Pieces.{token, is_quoted, is_blank, begins_with, digi
 use Rattle.pm_tokens.specs.Spelling.{ends_name, ends_by, begins_otherwise, NamesAreRead, NumbersAreRead, SymbolsAreRead}
 use Rattle.pm_tokens.proofs.Runs.{run_on}
 use Rattle.pm_tokens.proofs.Tables.{SymbolFits, symbol_fits}
-
-both_true : (x y : Bool) → (x && y) ≡ true → (x ≡ true) × (y ≡ true)
-both_true true y e = (refl, e)
-both_true false y e = absurd cc
 
 -- ---- the first character
 

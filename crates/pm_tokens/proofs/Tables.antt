@@ -1,10 +1,11 @@
 -- The symbols of the tables fit, and have at least one byte.
-use Rattle.std.proofs.Common.{◌≡◌, ℕ, ◌<◌, ◌≤◌, Bool, true, false, cond, ◌&&◌, List, [], ◌∷◌, length, drop, refl, ap, arith, length-append, Option, Some, None}
+use Rattle.std.proofs.Common.{◌≡◌, ℕ, ◌<◌, ◌≤◌, Bool, true, false, cond, List, [], ◌∷◌, length, drop, refl, ap, arith, length-append, Option, Some, None}
 use Rattle.std.specs.Prelude.{IfSome, nat_lt}
 use Rattle.std.specs.List.{list_all}
 use Rattle.std.proofs.lemmas.Bool.Decides.{Decides-eqb, nat_tests}
 use Rattle.std.proofs.lemmas.Slice.Eq.{starts_is}
 use lib.Utf8.{encode}
+use Rattle.pm_names.proofs.Characters.{both_true}
 use Rattle.pm_tokens.specs.declared.mode.Mode.{Mode}
 use Rattle.pm_tokens.specs.declared.mode.Mode.TheVariants.{Start, Outside, Quoted, OutsideLinear, QuotedLinear}
 use Rattle.pm_tokens.specs.declared.symbol.Symbol.{Symbol}
@@ -15,10 +16,6 @@ SymbolFits bytes found = IfSome found (λ x. (0 < x.1) × (x.1 ≤ length bytes)
 
 abbrev pub is_spelled : Row → Bool
 is_spelled r = nat_lt 0 (length r.0)
-
-both_true : (x y : Bool) → (x && y) ≡ true → (x ≡ true) × (y ≡ true)
-both_true true y e = (refl, e)
-both_true false y e = absurd cc
 
 longer_fits : (bytes : List ℕ) (a b : Option (Symbol × ℕ)) → SymbolFits bytes a → SymbolFits bytes b → SymbolFits bytes (longer a b)
 unfolding longer

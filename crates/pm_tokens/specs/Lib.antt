@@ -1,5 +1,6 @@
 pub mod Tokens
 pub mod Modes
+pub mod Words
 pub mod Symbols
 pub mod Characters
 pub mod Names

@@ -1,5 +1,5 @@
 -- Names among tokens.
-use Rattle.std.specs.Prelude.{ℕ, Bool, true, List}
+use Rattle.std.specs.Prelude.{Bool, true, List}
 use Rattle.std.specs.List.{list_all}
 use Rattle.pm_names.specs.Names.{is_name}
 use Rattle.pm_tokens.specs.Tokens.{Token, name, number, symbol, Place, place}

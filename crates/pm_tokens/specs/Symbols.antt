@@ -1,9 +1,9 @@
 -- The spellings of the symbols.
 use Rattle.std.specs.Prelude.{ℕ, Bool, if◌then◌else◌, nat_lt, eqb, List, [], ◌∷◌, length, codes, Option, Some, None}
 use Rattle.std.specs.List.{starts_with}
-use Rattle.std.specs.Str.{bytes_eq}
 use Prim.Native.String.{String}
 use lib.Utf8.{encodes}
+use Rattle.pm_tokens.specs.Words.{lookup}
 use Rattle.pm_tokens.specs.declared.mode.Mode.{Mode}
 use Rattle.pm_tokens.specs.declared.mode.Mode.TheVariants.{Start, Outside, Quoted, OutsideLinear, QuotedLinear}
 use Rattle.pm_tokens.specs.declared.symbol.Symbol.{Symbol}
@@ -144,9 +144,5 @@ symbol_at Quoted bytes = longest quoted_symbols bytes
 symbol_at QuotedLinear bytes = longer (longest quoted_symbols bytes) (longest certificate_symbols bytes)
 
 -- the symbol of a word
-unfoldable pub lookup : List Row → List ℕ → Option Symbol
-lookup [] word = None
-lookup (r ∷ rs) word = if bytes_eq word r.0 then Some r.1 else lookup rs word
-
 unfoldable pub keyword : List ℕ → Option Symbol
 keyword word = lookup keywords word

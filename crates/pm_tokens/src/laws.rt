@@ -8,7 +8,7 @@ pub fn texts_have_one_list()
     ensures { HasOneList }
 {}
 
-/// A name before bytes that do not continue it is read as this name.
+/// A name before bytes that do not continue it is read as this name, but `_` alone between quotes, which is a symbol.
 pub fn names_are_read()
     ensures { NamesAreRead }
 {}

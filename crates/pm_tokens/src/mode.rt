@@ -8,7 +8,7 @@ use crate::symbol::Symbol;
 use crate::token::Token;
 
 /// Which symbols may come next. A text that starts with `linear` has more of them between quotes.
-#[derive(Clone, Copy, Debug, PartialEq, Eq)]
+#[derive(Clone, Copy, PartialEq, Eq)]
 pub enum Mode {
     /// Before the first token.
     Start,

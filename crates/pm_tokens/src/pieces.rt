@@ -12,14 +12,15 @@ use crate::symbol::Symbol;
 use crate::symbols::{begins, keyword, symbol_at};
 use crate::token::Token;
 
-#[derive(Clone, Copy, Debug)]
+#[derive(Clone, Copy)]
 pub enum Piece<'a> {
     /// A blank or a comment.
     Gap,
     Token(Token<'a>),
 }
 
-fn is_blank(b: u8) -> bool
+/// Whether the byte is a space, a tab, CR or LF.
+pub fn is_blank(b: u8) -> bool
     ensures { result ≡ is_blank b }
 {
     b == b' ' || b == b'\t' || b == b'\r' || b == b'\n'

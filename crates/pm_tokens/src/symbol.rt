@@ -1,6 +1,6 @@
 /// A token that is no name and no number. Both spellings of a symbol give the same token; `*` and `∗` alone are two, since
 /// only `*` is a product.
-#[derive(Clone, Copy, Debug, PartialEq, Eq)]
+#[derive(Clone, Copy, PartialEq, Eq)]
 pub enum Symbol {
     Forall,
     Exists,

@@ -1,10 +1,11 @@
 //! The spellings of the symbols.
 
 ghost use Rattle.std.specs.Prelude.{◌≡◌, ◌≤◌, ◌<◌, length, map, IsTrue, IfSome};
-ghost use Rattle.pm_tokens.specs.Symbols.{begins, longer, row_at, longest, lookup, keyword, symbol_at};
+ghost use Rattle.pm_tokens.specs.Symbols.{begins, longer, row_at, longest, keyword, symbol_at};
 
 use crate::mode::Mode;
 use crate::symbol::Symbol;
+use crate::words::lookup;
 
 type Row = (&'static str, Symbol);
 
@@ -98,6 +99,7 @@ const KEYWORDS: [Row; 5] = [
     ("False", Symbol::False),
 ];
 
+/// Whether the bytes begin with a text.
 pub fn begins(text: &str, bytes: &[u8]) -> bool
     ensures value { result ≡ begins text.now bytes.now }
     ensures within { IsTrue result → length text.now ≤ length bytes.now }
@@ -139,22 +141,6 @@ fn longest(table: &[Row], bytes: &[u8]) -> Option<(Symbol, usize)>
     match table {
         [] => None,
         [row, rest @ ..] => longer(row_at(row, bytes), longest(rest, bytes)),
-    }
-}
-
-#[tactic(auto, unfolding(crate::specs::Symbols::lookup))]
-fn lookup(table: &[Row], word: &[u8]) -> Option<Symbol>
-    ensures { result ≡ lookup (map (λ r. (r.0.now, r.1)) table.now) word.now }
-{
-    match table {
-        [] => None,
-        [row, rest @ ..] => {
-            if word == row.0.as_bytes() {
-                Some(row.1)
-            } else {
-                lookup(rest, word)
-            }
-        }
     }
 }
 

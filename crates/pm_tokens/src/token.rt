@@ -2,7 +2,7 @@
 
 use crate::symbol::Symbol;
 
-#[derive(Clone, Copy, Debug)]
+#[derive(Clone, Copy)]
 pub enum Token<'a> {
     Name(&'a [u8]),
     /// Its value, cut at the greatest of the type.
@@ -11,14 +11,14 @@ pub enum Token<'a> {
 }
 
 /// A token and the offset of its first byte.
-#[derive(Clone, Copy, Debug)]
+#[derive(Clone, Copy)]
 pub struct Placed<'a> {
     pub token: Token<'a>,
     pub at: usize,
 }
 
 /// The tokens of a text.
-#[derive(Debug, Drop)]
+#[derive(Drop)]
 pub struct Tokens<'a> {
     pub list: Vec<Placed<'a>>,
     /// Where no token begins that isn't in the list: the end of the text, or the first byte that begins none.

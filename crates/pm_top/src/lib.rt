@@ -13,12 +13,3 @@ pub use pm_io::{
 };
 pub use program::top;
 pub use status::Status;
-
-#[cfg(test)]
-mod rule_tests;
-#[cfg(test)]
-mod run_tests;
-#[cfg(test)]
-mod script_tests;
-#[cfg(test)]
-mod tests;

@@ -5,11 +5,11 @@ use Rattle.pm_cutter.proofs.moves.in_comment.Goals as goal
 
 pub returns-then-begins-clause-value : goal.returns-then-begins-clause-value
 returns-then-begins-clause-value c = λ end at.
-    ap moved c.opened.ensures ∙ sym (opens_more end c.args.depth at (region_of c.args.region) c.args.bytes.now c.requires.some (sym c.begins.ensures ∙ c.if-begins.true))
+    ap moved c.opened.ensures ∙ sym (opens_more end c.args.depth at (region_of c.args.region) c.args.bytes.now c.requires.some (sym c.begins.ensures.value ∙ c.if-begins.true))
 
 pub returns-then-begins-2-clause-value : goal.returns-then-begins-2-clause-value
 returns-then-begins-2-clause-value c = λ end at.
-    ap moved c.opened-then-begins-2.ensures ∙ sym (closes_one end c.args.depth at (region_of c.args.region) c.args.bytes.now c.requires.some (sym c.begins.ensures ∙ c.if-begins.false) (sym c.begins-else-begins.ensures ∙ c.if-begins-2.true))
+    ap moved c.opened-then-begins-2.ensures ∙ sym (closes_one end c.args.depth at (region_of c.args.region) c.args.bytes.now c.requires.some (sym c.begins.ensures.value ∙ c.if-begins.false) (sym c.begins-else-begins.ensures.value ∙ c.if-begins-2.true))
 
 pub returns-else-begins-2-clause-value : goal.returns-else-begins-2-clause-value
-returns-else-begins-2-clause-value c = λ end at. sym (in_comments end c.args.depth at (region_of c.args.region) c.args.bytes.now c.requires.some (sym c.begins.ensures ∙ c.if-begins.false) (sym c.begins-else-begins.ensures ∙ c.if-begins-2.false))
+returns-else-begins-2-clause-value c = λ end at. sym (in_comments end c.args.depth at (region_of c.args.region) c.args.bytes.now c.requires.some (sym c.begins.ensures.value ∙ c.if-begins.false) (sym c.begins-else-begins.ensures.value ∙ c.if-begins-2.false))

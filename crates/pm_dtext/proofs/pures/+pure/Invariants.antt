@@ -4,11 +4,11 @@ use Rattle.pm_dtext.proofs.pures.+pure.Given as goal
 abbrev pub decreases-pure : goal.decreases-pure
 decreases-pure l = 5 * l.levels
 
-abbrev pub decreases-one_box : goal.decreases-one_box
-decreases-one_box l = 5 * l.levels + 1
+abbrev pub decreases-part : goal.decreases-part
+decreases-part l = 5 * l.levels + 1
 
-abbrev pub decreases-two_boxes : goal.decreases-two_boxes
-decreases-two_boxes l = 5 * l.levels + 2
+abbrev pub decreases-two_pures : goal.decreases-two_pures
+decreases-two_pures l = 5 * l.levels + 2
 
 abbrev pub decreases-negation : goal.decreases-negation
 decreases-negation l = 5 * l.levels + 3

@@ -1,4 +1,4 @@
-use Rattle.std.proofs.Common.{◌<◌, ◌∙◌, sym, ap, arith}
+use Rattle.std.proofs.Common.{◌∙◌, sym, ap, arith}
 use Rattle.pm_logic.specs.declared.formula.Formula.TheVariants.{Pure as Assert}
 use Rattle.pm_logic.specs.declared.formula.Formula.TheViews as view
 use Rattle.pm_logic.specs.declared.formula.Pure.{Pure}

@@ -1,5 +1,4 @@
-use Rattle.std.proofs.Common.{◌<◌, ◌∙◌, sym, ap, arith}
-use Rattle.pm_logic.specs.declared.formula.Formula.TheVariants.{Pure as Assert}
+use Rattle.std.proofs.Common.{◌∙◌, sym, ap, arith}
 use Rattle.pm_logic.specs.declared.formula.Formula.TheViews as view
 use Rattle.pm_goal.specs.declared.goal.Hyp.{Hyp}
 use Rattle.pm_goal.proofs.Stars.{star_less}

@@ -1,4 +1,3 @@
-use Rattle.pm_logic.specs.declared.formula.Formula.TheVariants.{Pure as Assert}
 use Rattle.pm_goal.proofs.Stars.{IsStar}
 use Rattle.pm_goal.proofs.left.hyps_onto.Given as goal
 

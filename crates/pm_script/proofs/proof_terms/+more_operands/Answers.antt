@@ -8,8 +8,8 @@ use Rattle.pm_script.proofs.proof_terms.+more_operands.Goals as goal
 pub returns-in_err-found : goal.returns-in_err-found
 returns-in_err-found t c =
     let same : c.from_residual.result ≡ Err c.in_err-found.field-0.0 = search rules in
-    rw same (λ known. halved_err (goes_on c.args.context.now.stop (table c.args.context.now) c.args.context.now.vars.now) (next_operand c.args.context.now.stop (table c.args.context.now) c.args.context.now.vars.now) c.args.most (c.args.most / 2) c.args.found (places c.args.tokens.now) c.in_err-found.field-0.0 (omega arith) (c.in_err-found.ensures known))
+    rw same (λ known. halved_err (goes_on c.args.context.now.stop (table c.args.context.now) c.args.context.now.vars) (next_operand c.args.context.now.stop (table c.args.context.now) c.args.context.now.vars) c.args.most (c.args.most / 2) c.args.found (places c.args.tokens.now) c.in_err-found.field-0.0 (omega arith) (c.in_err-found.ensures known))
 
 pub returns : goal.returns
 returns t c =
-    rw (halved_ok (goes_on c.args.context.now.stop (table c.args.context.now) c.args.context.now.vars.now) (next_operand c.args.context.now.stop (table c.args.context.now) c.args.context.now.vars.now) c.args.most (c.args.most / 2) c.args.found (places c.args.tokens.now) c.in_ok-found.found (places c.in_ok-found.rest.now) (omega arith) c.in_ok-found.ensures) c.more_operands-2.ensures
+    rw (halved_ok (goes_on c.args.context.now.stop (table c.args.context.now) c.args.context.now.vars) (next_operand c.args.context.now.stop (table c.args.context.now) c.args.context.now.vars) c.args.most (c.args.most / 2) c.args.found (places c.args.tokens.now) c.in_ok-found.found (places c.in_ok-found.rest.now) (omega arith) c.in_ok-found.ensures) c.more_operands-2.ensures

@@ -4,4 +4,4 @@ use Rattle.pm_script.proofs.words.form_of.Goals as goal
 
 pub returns : goal.returns
 unfolding form_of directive_words encode
-returns c = c.row_of.ensures
+returns c = c.lookup.ensures

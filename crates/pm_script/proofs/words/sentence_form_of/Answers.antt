@@ -4,4 +4,4 @@ use Rattle.pm_script.proofs.words.sentence_form_of.Goals as goal
 
 pub returns : goal.returns
 unfolding sentence_form_of sentence_words encode
-returns c = c.row_of.ensures
+returns c = c.lookup.ensures

@@ -12,4 +12,4 @@ pure_in-returns-then-room-eq0 t c = let none : c.args.room ≡ 0 = omega arith i
 pub pure_in-returns-else-room-eq0 : goal.pure_in-returns-else-room-eq0
 unfolding pure_in
 pure_in-returns-else-room-eq0 t c =
-    rw (deeper (λ n. pure_in c.args.context.now.stop (names_in c.args.bound.now c.args.context.now.vars.now) n c.args.level (places c.args.tokens.now)) c.args.room (omega arith)) c.pure_at.ensures
+    rw (deeper (λ n. pure_in c.args.context.now.stop (names_in c.args.bound.now c.args.context.now.vars) n c.args.level (places c.args.tokens.now)) c.args.room (omega arith)) c.pure_at.ensures

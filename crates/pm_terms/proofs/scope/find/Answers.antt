@@ -19,4 +19,4 @@ returns-clause-place c =
     let none : c.loop-depth.depth ≡ 0 = omega arith in
     let all : length c.args.bound.now - c.loop-depth.depth ≡ length c.args.bound.now = omega arith in
     let same = c.loop-depth.invariant.same in
-    c.find_outside.ensures.place ∙ rw (all, none) at same
+    c.place.ensures.place ∙ rw (all, none) at same

@@ -12,4 +12,4 @@ term_in-returns-then-room-eq0 t c = let none : c.args.room ≡ 0 = omega arith i
 pub term_in-returns-else-room-eq0 : goal.term_in-returns-else-room-eq0
 unfolding term_in
 term_in-returns-else-room-eq0 t c =
-    rw (deeper (λ n. term_in c.args.context.now.stop (names_in c.args.bound.now c.args.context.now.vars.now) n c.args.left c.args.signs (places c.args.tokens.now)) c.args.room (omega arith)) c.term_at.ensures
+    rw (deeper (λ n. term_in c.args.context.now.stop (names_in c.args.bound.now c.args.context.now.vars) n c.args.left c.args.signs (places c.args.tokens.now)) c.args.room (omega arith)) c.term_at.ensures

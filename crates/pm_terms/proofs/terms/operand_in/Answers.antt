@@ -12,4 +12,4 @@ returns-then-room-eq0 c = let none : c.args.room ≡ 0 = omega arith in rw none 
 pub returns-else-room-eq0 : goal.returns-else-room-eq0
 unfolding operand_in
 returns-else-room-eq0 c =
-    rw (deeper (λ n. operand_in c.args.context.now.stop (names_in c.args.bound.now c.args.context.now.vars.now) n (places c.args.tokens.now)) c.args.room (omega arith)) c.operand_at.ensures
+    rw (deeper (λ n. operand_in c.args.context.now.stop (names_in c.args.bound.now c.args.context.now.vars) n (places c.args.tokens.now)) c.args.room (omega arith)) c.operand_at.ensures

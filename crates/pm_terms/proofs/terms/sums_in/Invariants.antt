@@ -9,5 +9,5 @@ use Rattle.pm_terms.proofs.terms.sums_in.Given as goal
 
 abbrev pub invariant-loop-i : goal.invariant-loop-i
 invariant-loop-i l =
-    let part = sum_in l.context.stop (names_in l.bound l.context.vars.now) l.room in
+    let part = sum_in l.context.stop (names_in l.bound l.context.vars) l.room in
     PartsLeft (sees Comma) (λ us. part (drop 1 us)) (with_commas part (places l.tokens)) l.count l.terms l._i (places l.rest)

@@ -1,5 +1,6 @@
 use Rattle.std.proofs.Common.{sym, ◌∙◌, ap, length}
-use Rattle.pm_tokens.proofs.Runs.{chars_first, one_none, one_some, one_more}
+use Rattle.pm_names.proofs.Characters.{chars_first}
+use Rattle.pm_tokens.proofs.Runs.{one_none, one_some, one_more}
 use Rattle.pm_tokens.proofs.characters.one.Goals as goal
 
 pub returns-in-None : goal.returns-in-None

@@ -1,8 +1,7 @@
 use Rattle.std.proofs.Common.{◌≡◌, not, ◌∷◌, [], ◌++◌, Some, None, ◌∙◌, ap, subst, rules}
 use Rattle.std.specs.Prelude.{IfOk}
-use Rattle.std.specs.Bool.{OnTrue}
 use Rattle.pm_logic.specs.declared.formula.Pred.{Pred}
-use Rattle.pm_check.specs.Kept.{has_name, Adds}
+use Rattle.pm_name_sets.specs.Sets.{Adds}
 use Rattle.pm_run.specs.declared.running.Running.{Running}
 use Rattle.pm_run.specs.declared.running.Done.TheVariants as done
 use Rattle.pm_run.specs.Rows.{refusal}
@@ -29,7 +28,6 @@ returns c = λ s params counts k sayable.
     let q : Pred = record { name = c.args.name; arity = c.min-arity.result; body = c.args.body } in
     let lists : c.push.new.self ≡ c.args.self.now.preds.list ++ (q ∷ []) = search rules in
     let is : c.predicate_row.result ≡ None = search rules in
-    let new : c.in_ok-add_name-in-None.field-0 ≡ not (has_name c.args.self.now.names c.args.name) = search rules in
-    let adds : OnTrue c.in_ok-add_name-in-None.field-0 (Adds c.args.self.now.names c.add_name.new.names c.args.name) = search rules in
+    let adds : Adds c.args.self.now.names c.insert.new.self c.args.name = search rules in
     let rows = c.predicate_row.ensures s q c.args.name params (lists ∙ ap (λ ps. ps ++ (q ∷ [])) k.preds_are) (open_same c.args.self.now.proof s.proof k.proof_is) (c.is_used-used.ensures ∙ k.names_are c.args.name) counts c.nodes-all.ensures c.depth-deepest.ensures in
-    predicate_added c.args.self.now c.push.new.self c.add_name.new.names s c.args.name params c.args.body c.args.count c.min-arity.result c.in_ok-add_name-in-None.field-0 k sayable counts c.min-arity.ensures lists new adds (subst (predicate_rows s c.args.name params c.args.body) is rows)
+    predicate_added c.args.self.now c.push.new.self c.insert.new.self s c.args.name params c.args.body c.args.count c.min-arity.result k sayable counts c.min-arity.ensures lists adds (subst (predicate_rows s c.args.name params c.args.body) is rows)

@@ -1,7 +1,6 @@
 use Rattle.std.proofs.Common.{◌≡◌, ◌+◌, ◌-◌, ◌^◌, min, not, List, ◌∷◌, [], ◌++◌, Some, None, rules}
-use Rattle.std.specs.Bool.{OnTrue}
 use Rattle.pm_check.specs.declared.checked.Statement.{Statement}
-use Rattle.pm_check.specs.Kept.{has_name, Adds}
+use Rattle.pm_name_sets.specs.Sets.{Adds}
 use Rattle.pm_derive.specs.Stating.{IsNew, States}
 use Rattle.pm_run.specs.declared.proof.Stage.TheVariants as stage
 use Rattle.pm_run.proofs.Doings.{qed_done}
@@ -14,6 +13,5 @@ returns c = λ s k.
     let none : c.take.new.self ≡ None = search rules in
     let count : c.min-self.result ≡ min (min (c.args.self.now.lemmas + 1) (2 ^ 64 - 1)) 10000 = search rules in
     let grows : (before : List Statement) → States c.args.self.now.derivation before → IsNew before c.in-Some.proof.name → States c.lemma.new.self (before ++ (record { name = c.in-Some.proof.name; formula = c.in-Some.proof.statement } ∷ [])) = search rules in
-    let new : c.in_ok-add_name-in-Closed.field-0 ≡ not (has_name c.args.self.now.names c.in-Some.proof.name) = search rules in
-    let adds : OnTrue c.in_ok-add_name-in-Closed.field-0 (Adds c.args.self.now.names c.add_name.new.names c.in-Some.proof.name) = search rules in
-    qed_done c.args.self.now s c.in-Some.proof c.in-Closed.place c.add_name.new.names c.lemma.new.self c.min-self.result c.take.new.self c.in_ok-add_name-in-Closed.field-0 k e closed none count grows new adds
+    let adds : Adds c.args.self.now.names c.insert.new.self c.in-Some.proof.name = search rules in
+    qed_done c.args.self.now s c.in-Some.proof c.in-Closed.place c.insert.new.self c.lemma.new.self c.min-self.result c.take.new.self k e closed none count grows adds
