@@ -93,8 +93,8 @@ def names(size):
 
 
 def parameters(size):
-    """One predicate with many parameters: 131,072 bytes in the largest size."""
-    left = size // 128 - len(b"Predicate p() := True.")
+    """One predicate with many parameters."""
+    left = size - len(b"Predicate p() := True.")
     yield b"Predicate p("
     for n in itertools.count():
         more = (b", " if n else b"") + b"x%d" % n
