@@ -21,6 +21,7 @@ What is tried is told by plain Markdown:
                       stand behind `mosel-derivation 1` and `arities`; "without its line feed" drops the last one; a
                       cell without code is the empty input.
     | File | Lines |  A table whose first two columns these are: each file has so many lines.
+    | Limit | Value |  A table whose first two columns these are: pm_logic's limits.rt has these constants.
 
 In examples/, NAME.mosel and NAME.derivation are tried too. NAME.answer is what is answered: to what is accepted what `check`
 writes, else the line, whose first word tells the status. Without it they are accepted.
@@ -42,6 +43,16 @@ STATUSES = {b"refused": 1, b"unreadable": 2, b"usage": 3, b"too": 7}
 COMMANDS = {"mosel": "run", "derivation": "check"}
 HEADER = ["mosel-derivation 1", "arities"]
 PATH = re.compile(r"(?:\./)?(?:crates|docs|bench|examples|\.ci)/[\w./-]*\w|(?:\./)?(?:README\.md|crates\.txt|mosel)")
+
+
+def limits():
+    """The limits by their names, as pm_logic has them."""
+    with open(os.path.join(TOP, "crates", "pm_logic", "src", "limits.rt"), encoding="utf-8") as file:
+        rows = re.findall(r"pub const (\w+): \w+ = ([\d_]+);", file.read())
+    return {name: value.replace("_", "") for name, value in rows}
+
+
+LIMITS = limits()
 
 
 class Tries:
@@ -127,6 +138,9 @@ def try_tables(tries, name, lines):
                 path = os.path.join(TOP, path)
                 has = len(open(path, "rb").read().splitlines()) if os.path.isfile(path) else -1
                 tries.expect(place, has == int(lines_said), f"the file has {has} lines")
+        if head[:2] == ["Limit", "Value"]:
+            constant = codes(row["Limit"])[0][1]
+            tries.expect(place, LIMITS.get(constant) == row["Value"].replace(",", ""), f"{constant} is {LIMITS.get(constant)}")
         for word, command, given in (("Script", "run", script_of), ("Derivation", "check", derivation_of)):
             if head[:2] == [word, "Answer"]:
                 text = (codes(row["Answer"])[0][1] + "\n").encode()

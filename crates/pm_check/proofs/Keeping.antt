@@ -22,6 +22,9 @@ use Rattle.pm_check.specs.declared.checked.Statement.{Statement}
 use Rattle.pm_check.specs.declared.kept.Kept.{Kept}
 use Rattle.pm_check.specs.declared.fault.CheckFault.{CheckFault}
 use Rattle.pm_check.specs.declared.fault.CheckFault.TheVariants.{Refused, Memory}
+use Rattle.pm_check.specs.declared.fault.QedCondition.{QedCondition}
+use Rattle.pm_check.specs.declared.fault.QedCondition.TheVariants.{Variables, LeftSide, Name}
+use Rattle.pm_check.specs.declared.fault.Failed.TheVariants as failed
 use Rattle.pm_check.specs.Lines.{steps, names, proof_line, cited, statement, statements_behind, is_used, StepFollows, QedFollows, StepFails, FirstUnmetByQed}
 use Rattle.pm_check.specs.Derivation.{next_number, IsNext}
 use Rattle.pm_name_sets.specs.Sets.{has, Adds}
@@ -128,14 +131,14 @@ step_kept old new rule first second e p q u p_is q_is ok ps s n t = record {
 abbrev Unmets : Preds → Rule → Option Entail → Option Entail → Entail → Unmet → Type 0
 Unmets preds rule p q e u = let r : Result (Unit {0}) Unmet = Err u in Decides preds rule (premises p q) e r
 
-pub step_refused : (old new : Kept) (rule : Rule) (first second : Option ℕ) (e : Entail) (p q : Option Entail) (line : ℕ) (u : Unmet) → p ≡ cited old.steps.items first → q ≡ cited old.steps.items second → Unmets old.preds rule p q e u → line ≡ length old.steps.items → Takes old (Step rule first second e) new (Err (Refused (line + 1) u))
+pub step_refused : (old new : Kept) (rule : Rule) (first second : Option ℕ) (e : Entail) (p q : Option Entail) (line : ℕ) (u : Unmet) → p ≡ cited old.steps.items first → q ≡ cited old.steps.items second → Unmets old.preds rule p q e u → line ≡ length old.steps.items → Takes old (Step rule first second e) new (Err (Refused (line + 1) (failed.Step u)))
 step_refused old new rule first second e p q line u p_is q_is bad is = record {
   behind = λ preds ls k fits.
       let bad' : Unmets old.preds rule (cited old.steps.items first) (cited old.steps.items second) e u = subst (λ (o : Option Entail). Unmets old.preds rule (cited old.steps.items first) o e u) q_is (subst (λ (o : Option Entail). Unmets old.preds rule o q e u) p_is bad) in
       let fails : StepFails preds (steps ls) rule first second e u = subst (λ (es : List Entail). StepFails preds es rule first second e u) k.steps_are (subst (λ (x : Preds). StepFails x old.steps.items rule first second e u) k.preds_are (record { rule_is = bad'.0; fails = bad'.1 })) in
       let count : line ≡ length (steps ls) = is ∙ ap length k.steps_are in
       let same : line + 1 ≡ next_number ls = omega arith in
-      inr (subst (λ (n : ℕ). Refuses preds ls (Step rule first second e) (Refused n u)) (sym same) (step rule first second e u fails));
+      inr (subst (λ (n : ℕ). Refuses preds ls (Step rule first second e) (Refused n (failed.Step u))) (sym same) (step rule first second e u fails));
 }
 
 pub no_memory : (old new : Kept) (l : Line) (f : CheckFault) → f ≡ Memory → Takes old l new (Err f)
@@ -143,22 +146,22 @@ no_memory old new l f e = record { behind = λ preds ls k fits. inl e }
 
 -- ---- a statement
 
-qed_refused : (old new : Kept) (name : List ℕ) (n : ℕ) (es : List Entail) (line : Entail) (condition : ℕ) (g : CheckFault) → es ≡ old.steps.items → proof_line es n ≡ Some line → g ≡ Refused n (record { rule = 68; condition = condition }) → ((used : List (List ℕ)) → ((other : List ℕ) → has old.names other ≡ is_used used other) → FirstUnmetByQed line used name condition) → Takes old (Qed name n) new (Err g)
+qed_refused : (old new : Kept) (name : List ℕ) (n : ℕ) (es : List Entail) (line : Entail) (condition : QedCondition) (g : CheckFault) → es ≡ old.steps.items → proof_line es n ≡ Some line → g ≡ Refused n (failed.Qed condition) → ((used : List (List ℕ)) → ((other : List ℕ) → has old.names other ≡ is_used used other) → FirstUnmetByQed line used name condition) → Takes old (Qed name n) new (Err g)
 qed_refused old new name n es line condition g es_is there g_is fails = record {
   behind = λ preds ls k fits.
       let there' : proof_line (steps ls) n ≡ Some line = ap (λ xs. proof_line xs n) (sym (es_is ∙ k.steps_are)) ∙ there in
-      let bad = qed name n (record { rule = 68; condition = condition }) (record { line = line; there = there'; rule_is = refl; fails = fails (names ls) k.names_are }) in
+      let bad = qed name n condition (record { line = line; there = there'; fails = fails (names ls) k.names_are }) in
       inr (subst (λ (f : CheckFault). Refuses preds ls (Qed name n) f) (sym g_is) bad);
 }
 
-pub has_variables : (old new : Kept) (name : List ℕ) (n : ℕ) (es : List Entail) (line : Entail) (g : CheckFault) → es ≡ old.steps.items → proof_line es n ≡ Some line → g ≡ Refused n (record { rule = 68; condition = 1 }) → ¬ (line.vars ≡ 0) → Takes old (Qed name n) new (Err g)
-has_variables old new name n es line g es_is there g_is bad = qed_refused old new name n es line 1 g es_is there g_is (λ used are. inl (refl, bad))
+pub has_variables : (old new : Kept) (name : List ℕ) (n : ℕ) (es : List Entail) (line : Entail) (g : CheckFault) → es ≡ old.steps.items → proof_line es n ≡ Some line → g ≡ Refused n (failed.Qed Variables) → ¬ (line.vars ≡ 0) → Takes old (Qed name n) new (Err g)
+has_variables old new name n es line g es_is there g_is bad = qed_refused old new name n es line Variables g es_is there g_is (λ used are. bad)
 
-pub lacks_truth : (old new : Kept) (name : List ℕ) (n : ℕ) (es : List Entail) (line : Entail) (g : CheckFault) → es ≡ old.steps.items → proof_line es n ≡ Some line → g ≡ Refused n (record { rule = 68; condition = 2 }) → line.vars ≡ 0 → ¬ (line.left ≡ Fact True) → Takes old (Qed name n) new (Err g)
-lacks_truth old new name n es line g es_is there g_is closed bad = qed_refused old new name n es line 2 g es_is there g_is (λ used are. inr (inl (refl, closed, bad)))
+pub lacks_truth : (old new : Kept) (name : List ℕ) (n : ℕ) (es : List Entail) (line : Entail) (g : CheckFault) → es ≡ old.steps.items → proof_line es n ≡ Some line → g ≡ Refused n (failed.Qed LeftSide) → line.vars ≡ 0 → ¬ (line.left ≡ Fact True) → Takes old (Qed name n) new (Err g)
+lacks_truth old new name n es line g es_is there g_is closed bad = qed_refused old new name n es line LeftSide g es_is there g_is (λ used are. (closed, bad))
 
-pub name_taken : (old new : Kept) (name : List ℕ) (n : ℕ) (es : List Entail) (line : Entail) (g : CheckFault) → es ≡ old.steps.items → proof_line es n ≡ Some line → g ≡ Refused n (record { rule = 68; condition = 3 }) → line.vars ≡ 0 → line.left ≡ Fact True → false ≡ not (has old.names name) → Takes old (Qed name n) new (Err g)
-name_taken old new name n es line g es_is there g_is closed left taken = qed_refused old new name n es line 3 g es_is there g_is (λ used are. inr (inr (refl, closed, left, sym (are name) ∙ was (has old.names name) taken)))
+pub name_taken : (old new : Kept) (name : List ℕ) (n : ℕ) (es : List Entail) (line : Entail) (g : CheckFault) → es ≡ old.steps.items → proof_line es n ≡ Some line → g ≡ Refused n (failed.Qed Name) → line.vars ≡ 0 → line.left ≡ Fact True → false ≡ not (has old.names name) → Takes old (Qed name n) new (Err g)
+name_taken old new name n es line g es_is there g_is closed left taken = qed_refused old new name n es line Name g es_is there g_is (λ used are. (closed, left, sym (are name) ∙ was (has old.names name) taken))
   where
     was : (b : Bool) → false ≡ not b → b ≡ true
     was true e = refl

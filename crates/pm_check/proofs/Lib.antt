@@ -9,5 +9,6 @@ pub mod OneCondition
 pub mod OneEnd
 pub mod OneTable
 pub mod OneVerdict
+pub mod SomeVerdict
 pub mod Truth
 pub mod Verdicts

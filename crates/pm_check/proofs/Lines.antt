@@ -126,7 +126,7 @@ progress_more bytes rest after preds kept new n l u law p e is t =
 
 refused : (bytes after : List ℕ) (preds : Preds) (ls : List Line) (l : Line) (f : CheckFault) → Begins bytes preds ls (line_text (next_number ls) l after) → LineFits (arities_of preds.list) (next_number ls) l → Refuses preds ls l f → FirstOffence bytes f
 refused bytes after preds ls _ _ b fits (refused_step rule first second e unmet fails) = step preds ls rule first second e after unmet b fits fails
-refused bytes after preds ls _ _ b fits (refused_qed name cited unmet fails) = qed preds ls name cited after unmet b fits fails
+refused bytes after preds ls _ _ b fits (refused_qed name cited condition fails) = qed preds ls name cited after condition b fits fails
 
 with_rest : (bytes rest other : List ℕ) (preds : Preds) (ls : List Line) → Begins bytes preds ls rest → rest ≡ other → Begins bytes preds ls other
 with_rest bytes rest other preds ls b e = subst (λ (x : List ℕ). Begins bytes preds ls x) e b

@@ -13,6 +13,7 @@ use Rattle.pm_dtext.specs.Laws.{LinesAreRead, HeadersAreRead, AritiesAreRead, Pr
 use Rattle.pm_check.specs.declared.checked.Statement.{Statement}
 use Rattle.pm_check.specs.declared.fault.CheckFault.{CheckFault}
 use Rattle.pm_check.specs.declared.fault.CheckFault.TheVariants.{Refused, Unguarded}
+use Rattle.pm_check.specs.declared.fault.Failed.TheVariants as failed
 use Rattle.pm_check.specs.Table.{preds_text, table_text, BeginsTable}
 use Rattle.pm_check.specs.Lines.{cited, statements_behind}
 use Rattle.pm_check.specs.Derivation.{next_number, lines_text, Begins, IsDerivation}
@@ -113,8 +114,8 @@ finds_offence bytes _ (arities rest f t e) = no_arities rest f t e
 finds_offence bytes _ (predicate table preds arity rest f t b h e) = in_table table preds rest (Err (placed bytes 0 f)) t b (no_pred arity f h e)
 finds_offence bytes _ (unguarded table preds q rest t b fits bad) = in_table table preds (pred_text q rest) (Err (Unguarded (length preds))) t b (no_guard q rest refl fits bad)
 finds_offence bytes _ (line preds ls rest f b some e) = behind_table bytes preds ls rest (Err (placed bytes (line_named ls rest) f)) b (unread f some e)
-finds_offence bytes _ (step preds ls rule first second e rest unmet b fits bad) = behind_table bytes preds ls (line_text (next_number ls) (Step rule first second e) rest) (Err (Refused (next_number ls) unmet)) b (stuck (Step rule first second e) rest (Refused (next_number ls) unmet) refl fits (refused_step rule first second e unmet bad))
-finds_offence bytes _ (qed preds ls name cited rest unmet b fits bad) = behind_table bytes preds ls (line_text (next_number ls) (Qed name cited) rest) (Err (Refused cited unmet)) b (stuck (Qed name cited) rest (Refused cited unmet) refl fits (refused_qed name cited unmet bad))
+finds_offence bytes _ (step preds ls rule first second e rest unmet b fits bad) = behind_table bytes preds ls (line_text (next_number ls) (Step rule first second e) rest) (Err (Refused (next_number ls) (failed.Step unmet))) b (stuck (Step rule first second e) rest (Refused (next_number ls) (failed.Step unmet)) refl fits (refused_step rule first second e unmet bad))
+finds_offence bytes _ (qed preds ls name cited rest condition b fits bad) = behind_table bytes preds ls (line_text (next_number ls) (Qed name cited) rest) (Err (Refused cited (failed.Qed condition))) b (stuck (Qed name cited) rest (Refused cited (failed.Qed condition)) refl fits (refused_qed name cited condition bad))
 
 found_is : (p q : Preds × List Statement) → (let r : Found = Ok p in r) ≡ Ok q → p ≡ q
 found_is p q e = cc

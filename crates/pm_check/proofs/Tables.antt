@@ -121,10 +121,10 @@ get_or (x ∷ xs) (suc i) lt = get_or xs i (omega arith)
 get_is : (table : List ℕ) (i a : ℕ) → i < length table → a ≡ slice_index_or table i 0 → slice_get table i ≡ Some a
 get_is table i a lt e = get_or table i lt ∙ ap Some (sym e)
 
-has_arity : (table : List ℕ) (qs : List Pred) (i a : ℕ) → length qs ≡ i → i < length table → a ≡ slice_index_or table i 0 → HasArity table (length qs) a
+pub has_arity : (table : List ℕ) (qs : List Pred) (i a : ℕ) → length qs ≡ i → i < length table → a ≡ slice_index_or table i 0 → HasArity table (length qs) a
 has_arity table qs i a e lt a_is = subst (λ (k : ℕ). HasArity table k a) (sym e) (get_is table i a lt a_is)
 
-named_arity : (table : List ℕ) (qs : List Pred) (a : ℕ) → HasArity table (length qs) a → HasArity table (length (names_of qs)) a
+pub named_arity : (table : List ℕ) (qs : List Pred) (a : ℕ) → HasArity table (length qs) a → HasArity table (length (names_of qs)) a
 named_arity table qs a h = subst (λ (k : ℕ). HasArity table k a) (sym (names_length qs)) h
 
 pub table_grown : (bytes table rest : List ℕ) (i a : ℕ) (qs : List Pred) (q : Pred) (after : List ℕ) (new : List Pred) → PredsAreRead → TableProgress bytes table i qs rest → i < length table → a ≡ slice_index_or table i 0 → pred_at table (names_of qs) a rest ≡ Ok (q, after) → (new ≡ qs ++ q ∷ []) × CallsBelow (length qs) q.body → TableProgress bytes table (i + 1) new after

@@ -35,7 +35,7 @@ offence_read bytes _ (predicate table preds arity rest f t b h e) is = placed_re
 offence_read bytes _ (unguarded table preds q rest t b p n) is = cc
 offence_read bytes _ (line preds ls rest f b s e) is = placed_read bytes _ f is
 offence_read bytes _ (step preds ls rule first second e rest unmet b fits bad) is = cc
-offence_read bytes _ (qed preds ls name cited rest unmet b fits bad) is = cc
+offence_read bytes _ (qed preds ls name cited rest condition b fits bad) is = cc
 
 offence_long : (bytes : List ℕ) (f : CheckFault) → FirstOffence bytes f → f ≡ fault.Long → ⊥
 offence_long bytes _ (header f e) is = placed_long bytes 0 f is
@@ -44,7 +44,7 @@ offence_long bytes _ (predicate table preds arity rest f t b h e) is = placed_lo
 offence_long bytes _ (unguarded table preds q rest t b p n) is = cc
 offence_long bytes _ (line preds ls rest f b s e) is = placed_long bytes _ f is
 offence_long bytes _ (step preds ls rule first second e rest unmet b fits bad) is = cc
-offence_long bytes _ (qed preds ls name cited rest unmet b fits bad) is = cc
+offence_long bytes _ (qed preds ls name cited rest condition b fits bad) is = cc
 
 -- ---- each answer has its cause
 
@@ -64,7 +64,7 @@ never_long bytes j = elim j [ inl memory ↦ wanting memory | inr first ↦ offe
 pub checked : (left new : Option (List ℕ)) (bytes : List ℕ) (r : Answer) → TakesAll left new bytes → length bytes ≤ 2 ^ 63 → Judges bytes r → IsChecked left r
 checked left new bytes (Ok c) t short j = was_judged left new bytes (Ok c) t short j
 checked left new bytes (Err (fault.Syntax at)) t short j = was_judged left new bytes (Err (fault.Syntax at)) t short j
-checked left new bytes (Err (fault.Refused n unmet)) t short j = was_judged left new bytes (Err (fault.Refused n unmet)) t short j
+checked left new bytes (Err (fault.Refused n failed)) t short j = was_judged left new bytes (Err (fault.Refused n failed)) t short j
 checked left new bytes (Err (fault.NoLine n cited)) t short j = was_judged left new bytes (Err (fault.NoLine n cited)) t short j
 checked left new bytes (Err (fault.Unguarded p)) t short j = was_judged left new bytes (Err (fault.Unguarded p)) t short j
 checked left new bytes (Err (fault.Deep at)) t short j = was_judged left new bytes (Err (fault.Deep at)) t short j

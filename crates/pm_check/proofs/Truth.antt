@@ -17,7 +17,8 @@ use Rattle.pm_check.specs.Fronts.{EachBehind}
 use Rattle.pm_check.specs.Table.{BeginsTable}
 use Rattle.pm_check.specs.Lines.{steps, names, proof_line, cited, statement, statements_behind, QedFollows}
 use Rattle.pm_check.specs.Derivation.{IsNext}
-use Rattle.pm_check.specs.Truth.{IsTrueStatement, ProofLinesAreTrue, DerivationsAreTrue, NothingAbsurd}
+use Rattle.pm_check.specs.Truth.{IsTrueStatement}
+use Rattle.pm_check.specs.Laws.{ProofLinesAreTrue, DerivationsAreTrue, NothingAbsurd}
 use Rattle.pm_dtext.proofs.Scopes.{is_scoped}
 
 -- ---- a table that begins a derivation is well formed

@@ -17,6 +17,8 @@ use Rattle.pm_dtext.specs.Ranges.{LineFits}
 use Rattle.pm_dtext.specs.Texts.{arities_of}
 use Rattle.pm_check.specs.declared.fault.CheckFault.{CheckFault}
 use Rattle.pm_check.specs.declared.fault.CheckFault.TheVariants.{Refused, Unguarded, Memory}
+use Rattle.pm_check.specs.declared.fault.QedCondition.{QedCondition}
+use Rattle.pm_check.specs.declared.fault.Failed.TheVariants as failed
 use Rattle.pm_check.specs.declared.kept.Kept.{Kept}
 use Rattle.pm_check.specs.Fronts.{EachBehind}
 use Rattle.pm_check.specs.Table.{table_text, BeginsTable}
@@ -60,8 +62,8 @@ pub record Keeps (preds : Preds) (ls : List Line) (k : Kept) : Type 0 where
 
 -- the line behind these lines doesn't follow
 pub data Refuses (preds : Preds) (before : List Line) : Line → CheckFault → Type 0 where
-  step : (rule : Rule) (first second : Option ℕ) (e : Entail) (unmet : Unmet) → StepFails preds (steps before) rule first second e unmet → Refuses preds before (Step rule first second e) (Refused (next_number before) unmet)
-  qed : (name : List ℕ) (cited : ℕ) (unmet : Unmet) → QedFails (steps before) (names before) name cited unmet → Refuses preds before (Qed name cited) (Refused cited unmet)
+  step : (rule : Rule) (first second : Option ℕ) (e : Entail) (unmet : Unmet) → StepFails preds (steps before) rule first second e unmet → Refuses preds before (Step rule first second e) (Refused (next_number before) (failed.Step unmet))
+  qed : (name : List ℕ) (cited : ℕ) (condition : QedCondition) → QedFails (steps before) (names before) name cited condition → Refuses preds before (Qed name cited) (Refused cited (failed.Qed condition))
 
 -- whatever lines are kept: the next one, in its ranges, is kept too, or doesn't follow
 pub record TakesLine {T : Type 0} (old : Kept) (l : Line) (new : Kept) (r : Result T CheckFault) : Type 0 where

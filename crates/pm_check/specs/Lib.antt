@@ -5,5 +5,5 @@ pub mod Derivation
 pub mod Offence
 pub mod Answers
 pub mod Kept
-pub mod Laws
 pub mod Truth
+pub mod Laws

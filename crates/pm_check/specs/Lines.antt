@@ -1,5 +1,5 @@
 -- What lines contain, and when a line follows from the lines before it.
-use Rattle.std.specs.Prelude.{◌≡◌, ◌⊎◌, ℕ, zero, suc, List, [], ◌∷◌, ◌++◌, slice_get, Option, Some, None, Bool, true, false}
+use Rattle.std.specs.Prelude.{◌≡◌, ℕ, zero, suc, List, [], ◌∷◌, ◌++◌, slice_get, Option, Some, None, Bool, true, false}
 use Rattle.std.specs.List.{list_any}
 use Rattle.std.specs.Option.{option_map, option_to_list}
 use Rattle.std.specs.Str.{bytes_eq}
@@ -9,10 +9,14 @@ use Rattle.pm_logic.specs.declared.formula.Preds.{Preds}
 use Rattle.pm_rules.specs.declared.rules.Rule.{Rule}
 use Rattle.pm_rules.specs.declared.rules.Entail.{Entail}
 use Rattle.pm_rules.specs.declared.rules.Unmet.{Unmet}
-use Rattle.pm_rules.specs.Rules.{premises, RuleOk, rule_number, FirstUnmet}
+use Rattle.pm_rules.specs.Rules.{premises, RuleOk, rule_number, FirstUnmet, condition_number}
 use Rattle.pm_dtext.specs.declared.line.Line.{Line}
 use Rattle.pm_dtext.specs.declared.line.Line.TheVariants.{Step, Qed}
 use Rattle.pm_check.specs.declared.checked.Statement.{Statement}
+use Rattle.pm_check.specs.declared.fault.QedCondition.{QedCondition}
+use Rattle.pm_check.specs.declared.fault.QedCondition.TheVariants.{Variables, LeftSide, Name}
+use Rattle.pm_check.specs.declared.fault.Failed.{Failed}
+use Rattle.pm_check.specs.declared.fault.Failed.TheVariants as failed
 
 -- ---- what lines contain
 
@@ -77,15 +81,28 @@ pub record StepFails (preds : Preds) (es : List Entail) (rule : Rule) (first sec
   pub rule_is : unmet.rule ≡ rule_number rule
   pub fails : FirstUnmet preds rule (premises (cited es first) (cited es second)) e unmet.condition
 
--- of a `qed` whose cited proof line is this: 1, it has variables; 2, its left side isn't truth; 3, the name was used
-abbrev pub FirstUnmetByQed : Entail → List (List ℕ) → List ℕ → ℕ → Type 0
-FirstUnmetByQed e used name condition =
-    (condition ≡ 1) × ¬ (e.vars ≡ 0)
-    ⊎ (condition ≡ 2) × (e.vars ≡ 0) × ¬ (e.left ≡ Fact True)
-    ⊎ (condition ≡ 3) × (e.vars ≡ 0) × (e.left ≡ Fact True) × (is_used used name ≡ true)
+-- of a `qed` whose cited proof line is this: the condition fails, and those before it hold
+abbrev pub FirstUnmetByQed : Entail → List (List ℕ) → List ℕ → QedCondition → Type 0
+FirstUnmetByQed e used name Variables = ¬ (e.vars ≡ 0)
+FirstUnmetByQed e used name LeftSide = (e.vars ≡ 0) × ¬ (e.left ≡ Fact True)
+FirstUnmetByQed e used name Name = (e.vars ≡ 0) × (e.left ≡ Fact True) × (is_used used name ≡ true)
 
-pub record QedFails (es : List Entail) (used : List (List ℕ)) (name : List ℕ) (n : ℕ) (unmet : Unmet) : Type 0 where
+pub record QedFails (es : List Entail) (used : List (List ℕ)) (name : List ℕ) (n : ℕ) (condition : QedCondition) : Type 0 where
   pub line : Entail
   pub there : proof_line es n ≡ Some line
-  pub rule_is : unmet.rule ≡ 68
-  pub fails : FirstUnmetByQed line used name unmet.condition
+  pub fails : FirstUnmetByQed line used name condition
+
+-- ---- the numbers that are printed
+
+abbrev pub qed_condition_number : QedCondition → ℕ
+qed_condition_number Variables = 1
+qed_condition_number LeftSide = 2
+qed_condition_number Name = 3
+
+abbrev pub failed_rule : Failed → ℕ
+failed_rule (failed.Step unmet) = unmet.rule
+failed_rule (failed.Qed condition) = 68
+
+abbrev pub failed_condition : Failed → ℕ
+failed_condition (failed.Step unmet) = condition_number unmet.condition
+failed_condition (failed.Qed condition) = qed_condition_number condition

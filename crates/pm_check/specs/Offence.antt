@@ -17,6 +17,8 @@ use Rattle.pm_dtext.specs.Reading.{word, header_at, arities_at, pred_at, line_at
 use Rattle.pm_dtext.specs.Texts.{arities_of, names_of}
 use Rattle.pm_check.specs.declared.fault.CheckFault.{CheckFault}
 use Rattle.pm_check.specs.declared.fault.CheckFault.TheVariants.{Syntax, Refused, NoLine, Unguarded, Deep}
+use Rattle.pm_check.specs.declared.fault.QedCondition.{QedCondition}
+use Rattle.pm_check.specs.declared.fault.Failed.TheVariants as failed
 use Rattle.pm_check.specs.Table.{table_text, BeginsTable}
 use Rattle.pm_check.specs.Lines.{steps, names, StepFails, QedFails}
 use Rattle.pm_check.specs.Derivation.{next_number, Begins}
@@ -43,6 +45,6 @@ pub data FirstOffence (bytes : List ℕ) : CheckFault → Type 0 where
   -- a line can't be read
   line : (preds : Preds) (ls : List Line) (rest : List ℕ) (f : Fault) → Begins bytes preds ls rest → rest ≢ [] → line_at (arities_of preds.list) (next_number ls) rest ≡ Err f → FirstOffence bytes (placed bytes (line_named ls rest) f)
   -- a proof line doesn't follow
-  step : (preds : Preds) (ls : List Line) (rule : Rule) (first second : Option ℕ) (e : Entail) (rest : List ℕ) (unmet : Unmet) → Begins bytes preds ls (line_text (next_number ls) (Step rule first second e) rest) → LineFits (arities_of preds.list) (next_number ls) (Step rule first second e) → StepFails preds (steps ls) rule first second e unmet → FirstOffence bytes (Refused (next_number ls) unmet)
+  step : (preds : Preds) (ls : List Line) (rule : Rule) (first second : Option ℕ) (e : Entail) (rest : List ℕ) (unmet : Unmet) → Begins bytes preds ls (line_text (next_number ls) (Step rule first second e) rest) → LineFits (arities_of preds.list) (next_number ls) (Step rule first second e) → StepFails preds (steps ls) rule first second e unmet → FirstOffence bytes (Refused (next_number ls) (failed.Step unmet))
   -- a `qed` doesn't follow
-  qed : (preds : Preds) (ls : List Line) (name : List ℕ) (cited : ℕ) (rest : List ℕ) (unmet : Unmet) → Begins bytes preds ls (line_text (next_number ls) (Qed name cited) rest) → LineFits (arities_of preds.list) (next_number ls) (Qed name cited) → QedFails (steps ls) (names ls) name cited unmet → FirstOffence bytes (Refused cited unmet)
+  qed : (preds : Preds) (ls : List Line) (name : List ℕ) (cited : ℕ) (rest : List ℕ) (condition : QedCondition) → Begins bytes preds ls (line_text (next_number ls) (Qed name cited) rest) → LineFits (arities_of preds.list) (next_number ls) (Qed name cited) → QedFails (steps ls) (names ls) name cited condition → FirstOffence bytes (Refused cited (failed.Qed condition))

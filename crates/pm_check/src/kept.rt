@@ -7,11 +7,11 @@ ghost use Rattle.pm_logic.specs.declared.formula.Pure.TheVariants.{True};
 ghost use Rattle.pm_check.specs.Lines.{cited, proof_line};
 
 use crate::checked::{Checked, Statement};
-use crate::fault::CheckFault;
+use crate::fault::{CheckFault, Failed, QedCondition};
 use pm_dtext::Line;
 use pm_logic::{Formula, List, Name, Preds, Pure, copy};
 use pm_name_sets::NameSet;
-use pm_rules::{Entail, Rule, Unmet, rule_ok};
+use pm_rules::{Entail, Rule, rule_ok};
 use std::alloc::Global;
 
 /// The proof line of this number, counted from 1.
@@ -41,15 +41,12 @@ fn is_truth(f: &Formula) -> bool
 }
 
 /// The refusal of a `qed` that cites this line.
-fn qed_refused(line: u64, condition: u8) -> CheckFault
-    ensures { result ≡ CheckFault.Refused line (record { rule = 68; condition = condition }) }
+fn qed_refused(line: u64, condition: QedCondition) -> CheckFault
+    ensures { result ≡ CheckFault.Refused line (Failed.Qed condition) }
 {
     CheckFault::Refused {
         line,
-        unmet: Unmet {
-            rule: 68,
-            condition,
-        },
+        failed: Failed::Qed(condition),
     }
 }
 
@@ -113,7 +110,7 @@ impl Kept {
         if let Err(unmet) = rule_ok(&self.preds, &rule, first, second, &entail) {
             return Err(CheckFault::Refused {
                 line: before + 1,
-                unmet,
+                failed: Failed::Step(unmet),
             });
         }
         self.steps.push(entail)?;
@@ -128,13 +125,13 @@ impl Kept {
     {
         let line = line_of(&self.steps, cited);
         if line.vars != 0 {
-            return Err(qed_refused(cited, 1));
+            return Err(qed_refused(cited, QedCondition::Variables));
         }
         if !is_truth(&line.left) {
-            return Err(qed_refused(cited, 2));
+            return Err(qed_refused(cited, QedCondition::LeftSide));
         }
         if !self.names.insert(alloc, name.bytes())? {
-            return Err(qed_refused(cited, 3));
+            return Err(qed_refused(cited, QedCondition::Name));
         }
         let formula = copy(alloc, &line.right)?;
         self.statements.push(Statement { name, formula })?;

@@ -10,9 +10,10 @@ mod reading;
 mod table;
 
 pub use checked::{Checked, Statement};
-pub use fault::CheckFault;
+pub use fault::{CheckFault, Failed, QedCondition};
 pub use judging::check_bytes;
 pub use laws::{
-    derivations_are_true, nothing_absurd_is_derived, proof_lines_are_true, verdicts_are_one,
+    derivations_are_true, none_lacks_verdict, nothing_absurd_is_derived, proof_lines_are_true,
+    verdicts_are_one,
 };
 pub use reading::check;

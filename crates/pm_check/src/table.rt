@@ -12,7 +12,7 @@ use pm_dtext::{
     Fault, ReadFault, arities_are_read, headers_are_read, next_arities, next_header, next_pred,
     preds_are_read,
 };
-use pm_logic::{List, Pred, Preds, guarded};
+use pm_logic::{List, MAX_PREDICATES, Pred, Preds, guarded};
 use std::alloc::Global;
 
 /// The answer to a fault of reading the text, by its offset; a citation is one of this line.
@@ -33,7 +33,7 @@ pub fn answered(text: &[u8], line: u64, fault: ReadFault) -> CheckFault
 /// Adds the next predicate to the table, where it is guarded.
 #[tactic(auto, using(crate::proofs::Tables::adds_pred, crate::proofs::Tables::lacks_guard))]
 fn add(preds: &mut Preds, pred: Pred) -> Result<(), CheckFault>
-    requires { length preds.now.list < 64 }
+    requires { length preds.now.list < MAX_PREDICATES }
     ensures { AddsPred preds.old.list pred preds.new.list result }
 {
     let place = preds.list.len();

@@ -9,7 +9,8 @@ use Rattle.pm_rules.specs.declared.rules.Rule.{Rule}
 use Rattle.pm_rules.specs.declared.rules.Rule.TheVariants as rule
 use Rattle.pm_rules.specs.declared.rules.Entail.{Entail}
 use Rattle.pm_rules.specs.Shapes.{Letters}
-use Rattle.pm_rules.specs.Rules.{premises, premise_count, HasArguments, HasBracket, RuleOk}
+use Rattle.pm_rules.specs.Rows.{HasArguments, HasBracket}
+use Rattle.pm_rules.specs.Rules.{premises, premise_count, RuleOk}
 use Rattle.pm_dtext.specs.declared.line.Line.{Line}
 use Rattle.pm_dtext.specs.Ranges.{FormulaFits, CiteFits, ArgsFit, IsEarlier}
 use Rattle.pm_dtext.specs.Texts.{arities_of}

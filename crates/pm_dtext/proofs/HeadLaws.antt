@@ -3,6 +3,7 @@ use Rattle.std.proofs.Common.{◌≡◌, ℕ, zero, suc, ◌≤◌, List, [], �
 use Rattle.std.specs.Prelude.{codes}
 use Rattle.std.specs.Fmt.{decimal}
 use Rattle.std.specs.List.{AllByRecursion}
+use Rattle.pm_logic.specs.declared.limits.TheConstants.{MAX_LINE_LEVELS, MAX_PREDICATES, MAX_VARIABLES}
 use Rattle.pm_logic.specs.declared.formula.Formula.{Formula}
 use Rattle.pm_logic.specs.declared.formula.Pred.{Pred}
 use Rattle.pm_dtext.specs.Spelling.{formula_text, number_text, items_text, header_text, arities_text, pred_text}
@@ -33,7 +34,7 @@ header_found bytes rest h =
 -- ---- arities
 
 abbrev AreArities : List ℕ → Type 0
-AreArities arities = AllByRecursion (λ a. a ≤ 64) arities
+AreArities arities = AllByRecursion (λ a. a ≤ MAX_VARIABLES) arities
 
 numbers_again : (most : ℕ) (arities rest : List ℕ) → length arities ≤ most → AreArities arities → numbers_at most (items_text number_text arities (10 ∷ rest)) ≡ Ok (arities, rest)
 unfolding numbers_at items_text ends_at skip_at
@@ -41,14 +42,14 @@ numbers_again zero [] rest few fits = refl
 numbers_again zero (a ∷ arities) rest few fits = absurd (omega arith)
 numbers_again (suc most) [] rest few fits = refl
 numbers_again (suc most) (a ∷ arities) rest few fits =
-    rw (part_again (says_at (up_to 64)) (decimal a ++ items_text number_text arities (10 ∷ rest)))
-    (rw (up_to_again 64 a (items_text number_text arities (10 ∷ rest)) (omega (arith, fits.0)) fits.0 (items_stop number_text arities (10 ∷ rest) refl))
+    rw (part_again (says_at (up_to MAX_VARIABLES)) (decimal a ++ items_text number_text arities (10 ∷ rest)))
+    (rw (up_to_again MAX_VARIABLES a (items_text number_text arities (10 ∷ rest)) (omega (arith, fits.0)) fits.0 (items_stop number_text arities (10 ∷ rest) refl))
     (rw (numbers_again most arities rest (omega arith) fits.1) refl))
 
 pub arities_again : (arities rest : List ℕ) → AritiesFit arities → arities_at (arities_text arities rest) ≡ Ok (arities, rest)
 unfolding arities_at
 arities_again arities rest fits =
-    rw (expect_again (codes "arities") (items_text number_text arities (10 ∷ rest)) refl (items_stop number_text arities (10 ∷ rest) refl)) (numbers_again 64 arities rest fits.0 fits.1)
+    rw (expect_again (codes "arities") (items_text number_text arities (10 ∷ rest)) refl (items_stop number_text arities (10 ∷ rest) refl)) (numbers_again MAX_PREDICATES arities rest fits.0 fits.1)
 
 record NumbersFound (most : ℕ) (bytes arities rest : List ℕ) : Type 0 where
   spelled : bytes ≡ items_text number_text arities (10 ∷ rest)
@@ -61,7 +62,7 @@ none_found most bytes arities rest e =
     let end = ends_found [] arities bytes rest e in
     subst (λ (x : List ℕ). NumbersFound most bytes x rest) end.1 (record { spelled = end.0; few = omega arith; fits = tt })
 
-more_found : (most a : ℕ) (bytes at middle arities rest : List ℕ) → bytes ≡ 32 ∷ at → at ≡ decimal a ++ middle → a ≤ 64 → NumbersFound most middle arities rest → NumbersFound (suc most) bytes (a ∷ arities) rest
+more_found : (most a : ℕ) (bytes at middle arities rest : List ℕ) → bytes ≡ 32 ∷ at → at ≡ decimal a ++ middle → a ≤ MAX_VARIABLES → NumbersFound most middle arities rest → NumbersFound (suc most) bytes (a ∷ arities) rest
 unfolding items_text
 more_found most a bytes at middle arities rest p q small f = record {
   spelled = p ∙ ap (λ x. 32 ∷ x) (q ∙ ap (λ x. decimal a ++ x) f.spelled);
@@ -76,10 +77,10 @@ numbers_found (suc most) bytes arities rest e =
     elim (chosen (ends_line bytes) _ _ (Ok (arities, rest)) e) [
       | inl c ↦ none_found (suc most) bytes arities rest c.1
       | inr c ↦
-          with_ok (part_at (says_at (up_to 64)) bytes) _ (arities, rest) c.1 (λ n en hn.
+          with_ok (part_at (says_at (up_to MAX_VARIABLES)) bytes) _ (arities, rest) c.1 (λ n en hn.
           with_ok (numbers_at most n.1) _ (arities, rest) hn (λ ns es hs.
-          let p = part_found (says_at (up_to 64)) bytes n.0 n.1 en in
-          let u = up_to_found 64 p.at n.0 n.1 p.read in
+          let p = part_found (says_at (up_to MAX_VARIABLES)) bytes n.0 n.1 en in
+          let u = up_to_found MAX_VARIABLES p.at n.0 n.1 p.read in
           subst (λ (x : List ℕ × List ℕ). NumbersFound (suc most) bytes x.0 x.1) (ok_is {A = List ℕ × List ℕ} (n.0 ∷ ns.0, ns.1) (arities, rest) hs)
           (more_found most n.0 bytes p.at n.1 ns.0 ns.1 p.parts u.parts u.within (numbers_found most n.1 ns.0 ns.1 es))))
     ]
@@ -88,38 +89,38 @@ pub arities_found : (bytes arities rest : List ℕ) → arities_at bytes ≡ Ok 
 unfolding arities_at
 arities_found bytes arities rest e =
     with_ok (expect_at (codes "arities") bytes) _ (arities, rest) e (λ a ea ha.
-    let f = numbers_found 64 a arities rest ha in
+    let f = numbers_found MAX_PREDICATES a arities rest ha in
     record { fits = (f.few, f.fits); spelled = expect_found (codes "arities") bytes a ea ∙ ap (λ x. codes "arities" ++ x) f.spelled })
 
 -- ---- predicates
 
-arity_small : (arities : List ℕ) (p n : ℕ) → AreArities arities → HasArity arities p n → n ≤ 64
+arity_small : (arities : List ℕ) (p n : ℕ) → AreArities arities → HasArity arities p n → n ≤ MAX_VARIABLES
 arity_small [] p n h e = absurd cc
-arity_small (a ∷ arities) zero n h e = let same : a ≡ n = cc in subst (λ (x : ℕ). x ≤ 64) same h.0
+arity_small (a ∷ arities) zero n h e = let same : a ≡ n = cc in subst (λ (x : ℕ). x ≤ MAX_VARIABLES) same h.0
 arity_small (a ∷ arities) (suc p) n h e = arity_small arities p n h.1 e
 
-pred_read : (arities : List ℕ) (names : List (List ℕ)) (n : ℕ) (name : List ℕ) (body : Formula) (bytes a b rest : List ℕ) → expect_at (codes "pred") bytes ≡ Ok (32 ∷ a) → says_at (new_name_of names) a ≡ Ok (name, 32 ∷ b) → formula_at arities 1000 n b ≡ Ok (body, 10 ∷ rest) → pred_at arities names n bytes ≡ Ok (record { name = name; arity = n; body = body }, rest)
+pred_read : (arities : List ℕ) (names : List (List ℕ)) (n : ℕ) (name : List ℕ) (body : Formula) (bytes a b rest : List ℕ) → expect_at (codes "pred") bytes ≡ Ok (32 ∷ a) → says_at (new_name_of names) a ≡ Ok (name, 32 ∷ b) → formula_at arities MAX_LINE_LEVELS n b ≡ Ok (body, 10 ∷ rest) → pred_at arities names n bytes ≡ Ok (record { name = name; arity = n; body = body }, rest)
 unfolding pred_at part_at skip_at ends_at
 pred_read arities names n name body bytes a b rest h k l = rw h (rw k (rw l refl))
 
 pub pred_again : (arities : List ℕ) (names : List (List ℕ)) (q : Pred) (rest : List ℕ) → AritiesFit arities → PredFits arities names q → pred_at arities names q.arity (pred_text q rest) ≡ Ok (q, rest)
 pred_again arities names q rest table fits =
-    let small : q.arity ≤ 64 = arity_small arities (length names) q.arity table.1 fits.arity in
+    let small : q.arity ≤ MAX_VARIABLES = arity_small arities (length names) q.arity table.1 fits.arity in
     pred_read arities names q.arity q.name q.body (pred_text q rest) (q.name ++ (32 ∷ formula_text q.body (10 ∷ rest))) (formula_text q.body (10 ∷ rest)) rest
     (expect_again (codes "pred") (32 ∷ (q.name ++ (32 ∷ formula_text q.body (10 ∷ rest)))) refl refl)
     (new_name_again names q.name (32 ∷ formula_text q.body (10 ∷ rest)) fits.named fits.new refl)
-    (formula_again arities q.body 1000 q.arity (10 ∷ rest) (omega (arith, table.0)) (omega arith) fits.body.in_range fits.body.levels refl)
+    (formula_again arities q.body MAX_LINE_LEVELS q.arity (10 ∷ rest) (omega (arith, table.0)) (omega arith) fits.body.in_range fits.body.levels refl)
 
 pub pred_found : (arities : List ℕ) (names : List (List ℕ)) (n : ℕ) (bytes : List ℕ) (q : Pred) (rest : List ℕ) → HasArity arities (length names) n → pred_at arities names n bytes ≡ Ok (q, rest) → PredIsSpelled arities names bytes q rest
 unfolding pred_at
 pred_found arities names n bytes q rest has e =
     with_ok (expect_at (codes "pred") bytes) _ (q, rest) e (λ a ea ha.
     with_ok (part_at (says_at (new_name_of names)) a) _ (q, rest) ha (λ name en hn.
-    with_ok (part_at (formula_at arities 1000 n) name.1) _ (q, rest) hn (λ body eb hb.
+    with_ok (part_at (formula_at arities MAX_LINE_LEVELS n) name.1) _ (q, rest) hn (λ body eb hb.
     let p = part_found (says_at (new_name_of names)) a name.0 name.1 en in
     let f = new_name_found names p.at name.0 name.1 p.read in
-    let r = part_found (formula_at arities 1000 n) name.1 body.0 body.1 eb in
-    let g = formula_found arities 1000 n r.at body.0 body.1 r.read in
+    let r = part_found (formula_at arities MAX_LINE_LEVELS n) name.1 body.0 body.1 eb in
+    let g = formula_found arities MAX_LINE_LEVELS n r.at body.0 body.1 r.read in
     let end = ends_found (record { name = name.0; arity = n; body = body.0 }) q body.1 rest hb in
     subst (λ (x : Pred). PredIsSpelled arities names bytes x rest) end.1
     (record {

@@ -4,6 +4,7 @@ use Rattle.std.specs.Prelude.{codes, nat_le, nat_lt, is_some}
 use Rattle.std.specs.Fmt.{decimal}
 use Rattle.std.specs.Str.{bytes_eq}
 use Rattle.std.proofs.lemmas.Slice.Eq.{bytes_eq-Decides}
+use Rattle.pm_logic.specs.declared.limits.TheConstants.{MAX_LINE_LEVELS, MAX_LINE_VARIABLES}
 use Rattle.pm_rules.specs.declared.rules.Rule.{Rule}
 use Rattle.pm_rules.specs.declared.rules.Entail.{Entail}
 use Rattle.pm_rules.specs.Rules.{premise_count}
@@ -74,12 +75,12 @@ cite_found n true bytes cited rest e =
 
 -- ---- both sides of an entailment
 
-entail_again : (arities : List ℕ) (e : Entail) (rest : List ℕ) → length arities < 2 ^ 64 → e.vars ≤ 1000 → FormulaFits arities e.vars e.left → FormulaFits arities e.vars e.right → stops rest ≡ true → entail_at arities e.vars (entail_text e rest) ≡ Ok (e, rest)
+entail_again : (arities : List ℕ) (e : Entail) (rest : List ℕ) → length arities < 2 ^ 64 → e.vars ≤ MAX_LINE_VARIABLES → FormulaFits arities e.vars e.left → FormulaFits arities e.vars e.right → stops rest ≡ true → entail_at arities e.vars (entail_text e rest) ≡ Ok (e, rest)
 unfolding entail_at
 entail_again arities e rest table few left right s =
-    parts_again (entail_of e.vars) (formula_at arities 1000 e.vars) (formula_text e.left (32 ∷ formula_text e.right rest)) (formula_text e.right rest) rest e.left e.right
-    (formula_again arities e.left 1000 e.vars (32 ∷ formula_text e.right rest) table (omega arith) left.in_range left.levels refl)
-    (formula_again arities e.right 1000 e.vars rest table (omega arith) right.in_range right.levels s)
+    parts_again (entail_of e.vars) (formula_at arities MAX_LINE_LEVELS e.vars) (formula_text e.left (32 ∷ formula_text e.right rest)) (formula_text e.right rest) rest e.left e.right
+    (formula_again arities e.left MAX_LINE_LEVELS e.vars (32 ∷ formula_text e.right rest) table (omega arith) left.in_range left.levels refl)
+    (formula_again arities e.right MAX_LINE_LEVELS e.vars rest table (omega arith) right.in_range right.levels s)
 
 record EntailFound (arities : List ℕ) (k : ℕ) (bytes : List ℕ) (e : Entail) (rest : List ℕ) : Type 0 where
   parts : bytes ≡ entail_text e rest
@@ -90,9 +91,9 @@ record EntailFound (arities : List ℕ) (k : ℕ) (bytes : List ℕ) (e : Entail
 entail_found : (arities : List ℕ) (k : ℕ) (bytes : List ℕ) (e : Entail) (rest : List ℕ) → entail_at arities k bytes ≡ Ok (e, rest) → EntailFound arities k bytes e rest
 unfolding entail_at
 entail_found arities k bytes e rest h =
-    let p = parts_found (entail_of k) (formula_at arities 1000 k) bytes e rest h in
-    let l = formula_found arities 1000 k p.a p.x (32 ∷ p.b) p.first in
-    let r = formula_found arities 1000 k p.b p.y rest p.second in
+    let p = parts_found (entail_of k) (formula_at arities MAX_LINE_LEVELS k) bytes e rest h in
+    let l = formula_found arities MAX_LINE_LEVELS k p.a p.x (32 ∷ p.b) p.first in
+    let r = formula_found arities MAX_LINE_LEVELS k p.b p.y rest p.second in
     subst (λ (x : Entail). EntailFound arities k bytes x rest) p.made
     (record {
       parts = p.parts ∙ ap (λ x. 32 ∷ x) (l.spelled ∙ ap (λ x. formula_text p.x (32 ∷ x)) r.spelled);
@@ -103,7 +104,7 @@ entail_found arities k bytes e rest h =
 
 -- ---- proof lines
 
-step_read : (arities : List ℕ) (n : ℕ) (sign : RuleSign) (k : ℕ) (rule : Rule) (first second : Option ℕ) (e : Entail) (bytes a r f s t u rest : List ℕ) → expect_at (decimal n) bytes ≡ Ok (32 ∷ a) → says_at rule_sign_of a ≡ Ok (sign, 32 ∷ r) → says_at (up_to 1000) r ≡ Ok (k, f) → cite_at n (nat_le 1 (count_of sign)) f ≡ Ok (first, s) → cite_at n (nat_le 2 (count_of sign)) s ≡ Ok (second, t) → args_at arities k sign t ≡ Ok (rule, u) → entail_at arities k u ≡ Ok (e, 10 ∷ rest) → step_at arities n bytes ≡ Ok (Step rule first second e, rest)
+step_read : (arities : List ℕ) (n : ℕ) (sign : RuleSign) (k : ℕ) (rule : Rule) (first second : Option ℕ) (e : Entail) (bytes a r f s t u rest : List ℕ) → expect_at (decimal n) bytes ≡ Ok (32 ∷ a) → says_at rule_sign_of a ≡ Ok (sign, 32 ∷ r) → says_at (up_to MAX_LINE_VARIABLES) r ≡ Ok (k, f) → cite_at n (nat_le 1 (count_of sign)) f ≡ Ok (first, s) → cite_at n (nat_le 2 (count_of sign)) s ≡ Ok (second, t) → args_at arities k sign t ≡ Ok (rule, u) → entail_at arities k u ≡ Ok (e, 10 ∷ rest) → step_at arities n bytes ≡ Ok (Step rule first second e, rest)
 unfolding step_at part_at skip_at ends_at
 step_read arities n sign k rule first second e bytes a r f s t u rest ha hr hk hf hs ht hu = rw ha (rw hr (rw hk (rw hf (rw hs (rw ht (rw hu refl))))))
 
@@ -118,7 +119,7 @@ step_again arities n rule first second e rest table small fits =
     (rule_name rule ++ (32 ∷ (decimal e.vars ++ cites))) (decimal e.vars ++ cites) cites (cite_text second args) args sides rest
     (expect_again (decimal n) (32 ∷ (rule_name rule ++ (32 ∷ (decimal e.vars ++ cites)))) (decimal_word n small) refl)
     (rule_again rule (32 ∷ (decimal e.vars ++ cites)) refl)
-    (up_to_again 1000 e.vars cites (omega (arith, fits.vars)) fits.vars (cite_stops first (cite_text second args) (cite_stops second args args_stops)))
+    (up_to_again MAX_LINE_VARIABLES e.vars cites (omega (arith, fits.vars)) fits.vars (cite_stops first (cite_text second args) (cite_stops second args args_stops)))
     (cite_wanted n first (nat_le 1 (count_of (sign_for rule))) (cite_text second args) (fits.first_stands ∙ ap (nat_le 1) (sym count)) small fits.first_fits (cite_stops second args args_stops))
     (cite_wanted n second (nat_le 2 (count_of (sign_for rule))) args (fits.second_stands ∙ ap (nat_le 2) (sym count)) small fits.second_fits args_stops)
     (args_again arities e.vars rule sides table fits.vars fits.args refl)
@@ -140,7 +141,7 @@ record StepParts (arities : List ℕ) (n : ℕ) (bytes : List ℕ) (l : Line) (r
   h : List ℕ
   number : bytes ≡ decimal n ++ a
   named : part_at (says_at rule_sign_of) a ≡ Ok (sign, b)
-  vars : part_at (says_at (up_to 1000)) b ≡ Ok (k, c)
+  vars : part_at (says_at (up_to MAX_LINE_VARIABLES)) b ≡ Ok (k, c)
   cites_first : cite_at n (nat_le 1 (count_of sign)) c ≡ Ok (first, d)
   cites_second : cite_at n (nat_le 2 (count_of sign)) d ≡ Ok (second, f)
   args : args_at arities k sign f ≡ Ok (rule, g)
@@ -160,7 +161,7 @@ unfolding step_at
 step_parts arities n bytes l rest e =
     with_ok (expect_at (decimal n) bytes) _ (l, rest) e (λ a ea ha.
     with_ok (part_at (says_at rule_sign_of) a) _ (l, rest) ha (λ b eb hb.
-    with_ok (part_at (says_at (up_to 1000)) b.1) _ (l, rest) hb (λ c ec hc.
+    with_ok (part_at (says_at (up_to MAX_LINE_VARIABLES)) b.1) _ (l, rest) hb (λ c ec hc.
     with_ok (cite_at n (nat_le 1 (count_of b.0)) c.1) _ (l, rest) hc (λ d ed hd.
     with_ok (cite_at n (nat_le 2 (count_of b.0)) d.1) _ (l, rest) hd (λ f ef hf.
     with_ok (args_at arities c.0 b.0 f.1) _ (l, rest) hf (λ g eg hg.
@@ -192,7 +193,7 @@ step_parts arities n bytes l rest e =
     })))))))
 
 -- the variables of an entailment, which was read with so many
-fits_at : (arities : List ℕ) (n k : ℕ) (sign : RuleSign) (rule : Rule) (first second : Option ℕ) (e : Entail) (c d f g h : List ℕ) → k ≤ 1000 → CiteFound n (nat_le 1 (count_of sign)) c first d → CiteFound n (nat_le 2 (count_of sign)) d second f → ArgsFit arities k rule → count_of sign ≡ premise_count rule → EntailFound arities k g e h → StepFits arities n rule first second e
+fits_at : (arities : List ℕ) (n k : ℕ) (sign : RuleSign) (rule : Rule) (first second : Option ℕ) (e : Entail) (c d f g h : List ℕ) → k ≤ MAX_LINE_VARIABLES → CiteFound n (nat_le 1 (count_of sign)) c first d → CiteFound n (nat_le 2 (count_of sign)) d second f → ArgsFit arities k rule → count_of sign ≡ premise_count rule → EntailFound arities k g e h → StepFits arities n rule first second e
 fits_at arities n k sign rule first second e c d f g h few a b args count sides = record {
   first_stands = a.stands ∙ ap (nat_le 1) count;
   second_stands = b.stands ∙ ap (nat_le 2) count;
@@ -204,7 +205,7 @@ fits_at arities n k sign rule first second e c d f g h few a b args count sides 
   right = subst (λ (v : ℕ). FormulaFits arities v e.right) (sym sides.vars) sides.right;
 }
 
-step_made : (arities : List ℕ) (n : ℕ) (sign : RuleSign) (k : ℕ) (rule : Rule) (first second : Option ℕ) (e : Entail) (bytes a a' b b' c d f g h rest : List ℕ) → bytes ≡ decimal n ++ a → a ≡ 32 ∷ a' → a' ≡ sign_text sign ++ b → b ≡ 32 ∷ b' → b' ≡ decimal k ++ c → k ≤ 1000 → CiteFound n (nat_le 1 (count_of sign)) c first d → CiteFound n (nat_le 2 (count_of sign)) d second f → f ≡ args_text rule g → ArgsFit arities k rule → sign_text sign ≡ rule_name rule → count_of sign ≡ premise_count rule → EntailFound arities k g e h → h ≡ 10 ∷ rest → LineIsSpelled arities n bytes (Step rule first second e) rest
+step_made : (arities : List ℕ) (n : ℕ) (sign : RuleSign) (k : ℕ) (rule : Rule) (first second : Option ℕ) (e : Entail) (bytes a a' b b' c d f g h rest : List ℕ) → bytes ≡ decimal n ++ a → a ≡ 32 ∷ a' → a' ≡ sign_text sign ++ b → b ≡ 32 ∷ b' → b' ≡ decimal k ++ c → k ≤ MAX_LINE_VARIABLES → CiteFound n (nat_le 1 (count_of sign)) c first d → CiteFound n (nat_le 2 (count_of sign)) d second f → f ≡ args_text rule g → ArgsFit arities k rule → sign_text sign ≡ rule_name rule → count_of sign ≡ premise_count rule → EntailFound arities k g e h → h ≡ 10 ∷ rest → LineIsSpelled arities n bytes (Step rule first second e) rest
 step_made arities n sign k rule first second e bytes a a' b b' c d f g h rest number space named space' vars few cite cite' args args_fit name count sides end =
     let sides_are : g ≡ entail_text e (10 ∷ rest) = sides.parts ∙ ap (entail_text e) end in
     let cites : c ≡ cite_text first (cite_text second (args_text rule (entail_text e (10 ∷ rest)))) = cite.parts ∙ ap (cite_text first) (cite'.parts ∙ ap (cite_text second) (args ∙ ap (args_text rule) sides_are)) in
@@ -219,8 +220,8 @@ step_found arities n bytes l rest h =
     let p = step_parts arities n bytes l rest h in
     let named = part_found (says_at rule_sign_of) p.a p.sign p.b p.named in
     let sign = sign_found named.at p.sign p.b named.read in
-    let vars = part_found (says_at (up_to 1000)) p.b p.k p.c p.vars in
-    let number = up_to_found 1000 vars.at p.k p.c vars.read in
+    let vars = part_found (says_at (up_to MAX_LINE_VARIABLES)) p.b p.k p.c p.vars in
+    let number = up_to_found MAX_LINE_VARIABLES vars.at p.k p.c vars.read in
     let first = cite_found n (nat_le 1 (count_of p.sign)) p.c p.first p.d p.cites_first in
     let second = cite_found n (nat_le 2 (count_of p.sign)) p.d p.second p.f p.cites_second in
     let args = args_found arities p.k p.sign p.f p.rule p.g sign.listed p.args in

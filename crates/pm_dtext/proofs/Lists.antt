@@ -1,5 +1,6 @@
 -- Reading numbers up to a line's end, in a loop.
 use Rattle.std.proofs.Common.{◌≡◌, ℕ, zero, suc, ◌<◌, ◌≤◌, ◌+◌, ◌-◌, true, false, List, [], ◌∷◌, ◌++◌, refl, sym, ◌∙◌, ap, arith, append_assoc, append-nil, Result, Ok, Err}
+use Rattle.pm_logic.specs.declared.limits.TheConstants.{MAX_VARIABLES}
 use Rattle.pm_dtext.specs.declared.fault.Fault.{Fault}
 use Rattle.pm_dtext.specs.Reading.{◌>>=◌, part_at, says_at, up_to, skip_at, ends_at, ends_line, numbers_at}
 use Rattle.pm_dtext.proofs.Items.{behind, whole}
@@ -14,7 +15,7 @@ numbers_begun most bytes =
     let all : most - 0 ≡ most = omega arith in
     record { within = omega arith; same = whole (numbers_at most bytes) ∙ ap (λ n. behind [] (numbers_at n bytes)) (sym all) }
 
-one_more : (left : ℕ) (rest : List ℕ) (x : ℕ) (next done : List ℕ) → ends_line rest ≡ false → part_at (says_at (up_to 64)) rest ≡ Ok (x, next) → behind done (numbers_at (suc left) rest) ≡ behind (done ++ x ∷ []) (numbers_at left next)
+one_more : (left : ℕ) (rest : List ℕ) (x : ℕ) (next done : List ℕ) → ends_line rest ≡ false → part_at (says_at (up_to MAX_VARIABLES)) rest ≡ Ok (x, next) → behind done (numbers_at (suc left) rest) ≡ behind (done ++ x ∷ []) (numbers_at left next)
 unfolding numbers_at
 one_more left rest x next done still e = rw still (rw e (go (numbers_at left next)))
   where
@@ -22,7 +23,7 @@ one_more left rest x next done still e = rw still (rw e (go (numbers_at left nex
     go (Ok xs) = ap (λ ys. Ok (ys, xs.1)) (sym (append_assoc done (x ∷ []) xs.0))
     go (Err f) = refl
 
-pub numbers_turned : (most : ℕ) (bytes done : List ℕ) (turn : ℕ) (rest : List ℕ) (x : ℕ) (next : List ℕ) → NumbersLeft most bytes done turn rest → turn < most → ends_line rest ≡ false → part_at (says_at (up_to 64)) rest ≡ Ok (x, next) → NumbersLeft most bytes (done ++ x ∷ []) (turn + 1) next
+pub numbers_turned : (most : ℕ) (bytes done : List ℕ) (turn : ℕ) (rest : List ℕ) (x : ℕ) (next : List ℕ) → NumbersLeft most bytes done turn rest → turn < most → ends_line rest ≡ false → part_at (says_at (up_to MAX_VARIABLES)) rest ≡ Ok (x, next) → NumbersLeft most bytes (done ++ x ∷ []) (turn + 1) next
 numbers_turned most bytes done turn rest x next h more still e =
     let now : most - turn ≡ suc (most - (turn + 1)) = omega arith in
     record {
@@ -30,11 +31,11 @@ numbers_turned most bytes done turn rest x next h more still e =
       same = h.same ∙ (ap (λ n. behind done (numbers_at n rest)) now ∙ one_more (most - (turn + 1)) rest x next done still e);
     }
 
-failed : (left : ℕ) (rest : List ℕ) (f : Fault) (done : List ℕ) → ends_line rest ≡ false → part_at (says_at (up_to 64)) rest ≡ Err f → behind done (numbers_at (suc left) rest) ≡ Err f
+failed : (left : ℕ) (rest : List ℕ) (f : Fault) (done : List ℕ) → ends_line rest ≡ false → part_at (says_at (up_to MAX_VARIABLES)) rest ≡ Err f → behind done (numbers_at (suc left) rest) ≡ Err f
 unfolding numbers_at
 failed left rest f done still e = rw still (rw e refl)
 
-pub numbers_failed : (most : ℕ) (bytes done : List ℕ) (turn : ℕ) (rest : List ℕ) (f : Fault) → NumbersLeft most bytes done turn rest → turn < most → ends_line rest ≡ false → part_at (says_at (up_to 64)) rest ≡ Err f → numbers_at most bytes ≡ Err f
+pub numbers_failed : (most : ℕ) (bytes done : List ℕ) (turn : ℕ) (rest : List ℕ) (f : Fault) → NumbersLeft most bytes done turn rest → turn < most → ends_line rest ≡ false → part_at (says_at (up_to MAX_VARIABLES)) rest ≡ Err f → numbers_at most bytes ≡ Err f
 numbers_failed most bytes done turn rest f h more still e =
     let now : most - turn ≡ suc (most - (turn + 1)) = omega arith in
     h.same ∙ (ap (λ n. behind done (numbers_at n rest)) now ∙ failed (most - (turn + 1)) rest f done still e)

@@ -2,6 +2,7 @@
 use Rattle.std.proofs.Common.{◌≡◌, ℕ, suc, ◌<◌, ◌≤◌, ◌^◌, Bool, true, false, List, ◌∷◌, ◌++◌, length, refl, ◌∙◌, ap, subst, arith, Some, Ok}
 use Rattle.std.specs.Prelude.{codes, ℤ}
 use Rattle.std.specs.List.{AllByRecursion}
+use Rattle.pm_logic.specs.declared.limits.TheConstants.{MAX_LINE_LEVELS, MAX_LINE_TERMS, MAX_LINE_VARIABLES}
 use Rattle.pm_logic.specs.declared.formula.Term.{Term}
 use Rattle.pm_logic.specs.declared.formula.Formula.{Formula}
 use Rattle.pm_rules.specs.declared.rules.Rule.{Rule}
@@ -81,20 +82,20 @@ sign_found bytes s rest e =
 
 -- ---- arguments
 
-term_part : (arities : List ℕ) (k : ℕ) (t : Term) (rest : List ℕ) → k ≤ 1000 → TermFits k t → stops rest ≡ true → part_at (term_at 1000 k) (32 ∷ term_text t rest) ≡ Ok (t, rest)
-term_part arities k t rest few fits e = part_again (term_at 1000 k) (term_text t rest) ∙ term_again t 1000 k rest (omega arith) fits.in_range fits.levels e
+term_part : (arities : List ℕ) (k : ℕ) (t : Term) (rest : List ℕ) → k ≤ MAX_LINE_VARIABLES → TermFits k t → stops rest ≡ true → part_at (term_at MAX_LINE_LEVELS k) (32 ∷ term_text t rest) ≡ Ok (t, rest)
+term_part arities k t rest few fits e = part_again (term_at MAX_LINE_LEVELS k) (term_text t rest) ∙ term_again t MAX_LINE_LEVELS k rest (omega arith) fits.in_range fits.levels e
 
-inst_again : (arities : List ℕ) (k : ℕ) (sigma : List Term) (rest : List ℕ) → k ≤ 1000 → (length sigma ≤ 1000) × AllByRecursion (TermFits k) sigma → stops rest ≡ true → args_at arities k sign.Inst (32 ∷ list_text term_text sigma rest) ≡ Ok (Inst sigma, rest)
+inst_again : (arities : List ℕ) (k : ℕ) (sigma : List Term) (rest : List ℕ) → k ≤ MAX_LINE_VARIABLES → (length sigma ≤ MAX_LINE_TERMS) × AllByRecursion (TermFits k) sigma → stops rest ≡ true → args_at arities k sign.Inst (32 ∷ list_text term_text sigma rest) ≡ Ok (Inst sigma, rest)
 unfolding args_at part_as
 inst_again arities k sigma rest few fits e =
-    rw (part_again (list_at 1000 (term_at 1000 k)) (list_text term_text sigma rest))
-    (rw (list_again 1000 (term_at 1000 k) term_text (TermFits k) sigma rest (omega arith) (λ t r h s. term_again t 1000 k r (omega arith) h.in_range h.levels s) fits.0 fits.1 e) refl)
+    rw (part_again (list_at MAX_LINE_TERMS (term_at MAX_LINE_LEVELS k)) (list_text term_text sigma rest))
+    (rw (list_again MAX_LINE_TERMS (term_at MAX_LINE_LEVELS k) term_text (TermFits k) sigma rest (omega arith) (λ t r h s. term_again t MAX_LINE_LEVELS k r (omega arith) h.in_range h.levels s) fits.0 fits.1 e) refl)
 
-all_again : (arities : List ℕ) (k : ℕ) (t : Term) (rest : List ℕ) → k ≤ 1000 → TermFits k t → stops rest ≡ true → args_at arities k sign.AllE (32 ∷ term_text t rest) ≡ Ok (AllE t, rest)
+all_again : (arities : List ℕ) (k : ℕ) (t : Term) (rest : List ℕ) → k ≤ MAX_LINE_VARIABLES → TermFits k t → stops rest ≡ true → args_at arities k sign.AllE (32 ∷ term_text t rest) ≡ Ok (AllE t, rest)
 unfolding args_at part_as
 all_again arities k t rest few fits e = rw (term_part arities k t rest few fits e) refl
 
-ex_again : (arities : List ℕ) (k : ℕ) (t : Term) (rest : List ℕ) → k ≤ 1000 → TermFits k t → stops rest ≡ true → args_at arities k sign.ExI (32 ∷ term_text t rest) ≡ Ok (ExI t, rest)
+ex_again : (arities : List ℕ) (k : ℕ) (t : Term) (rest : List ℕ) → k ≤ MAX_LINE_VARIABLES → TermFits k t → stops rest ≡ true → args_at arities k sign.ExI (32 ∷ term_text t rest) ≡ Ok (ExI t, rest)
 unfolding args_at part_as
 ex_again arities k t rest few fits e = rw (term_part arities k t rest few fits e) refl
 
@@ -108,13 +109,13 @@ linear_again arities k c d rest fits e =
     (factors_again c (32 ∷ list_text literal_text d rest) fits.0 refl)
     (factors_again d rest fits.1 e)
 
-rewrite_again : (arities : List ℕ) (k : ℕ) (b : Formula) (rest : List ℕ) → length arities < 2 ^ 64 → k ≤ 1000 → FormulaFits arities (suc k) b → stops rest ≡ true → args_at arities k sign.Rewrite (32 ∷ formula_text b rest) ≡ Ok (Rewrite b, rest)
+rewrite_again : (arities : List ℕ) (k : ℕ) (b : Formula) (rest : List ℕ) → length arities < 2 ^ 64 → k ≤ MAX_LINE_VARIABLES → FormulaFits arities (suc k) b → stops rest ≡ true → args_at arities k sign.Rewrite (32 ∷ formula_text b rest) ≡ Ok (Rewrite b, rest)
 unfolding args_at part_as
 rewrite_again arities k b rest table few fits e =
-    rw (part_again (formula_at arities 1000 (suc k)) (formula_text b rest))
-    (rw (formula_again arities b 1000 (suc k) rest table (omega arith) fits.in_range fits.levels e) refl)
+    rw (part_again (formula_at arities MAX_LINE_LEVELS (suc k)) (formula_text b rest))
+    (rw (formula_again arities b MAX_LINE_LEVELS (suc k) rest table (omega arith) fits.in_range fits.levels e) refl)
 
-pub args_again : (arities : List ℕ) (k : ℕ) (r : Rule) (rest : List ℕ) → length arities < 2 ^ 64 → k ≤ 1000 → ArgsFit arities k r → stops rest ≡ true → args_at arities k (sign_for r) (args_text r rest) ≡ Ok (r, rest)
+pub args_again : (arities : List ℕ) (k : ℕ) (r : Rule) (rest : List ℕ) → length arities < 2 ^ 64 → k ≤ MAX_LINE_VARIABLES → ArgsFit arities k r → stops rest ≡ true → args_at arities k (sign_for r) (args_text r rest) ≡ Ok (r, rest)
 unfolding args_at args_text ArgsFit part_as
 args_again arities k (Inst sigma) rest table few fits e = inst_again arities k sigma rest few fits e
 args_again arities k (AllE t) rest table few fits e = all_again arities k t rest few fits e
@@ -147,8 +148,8 @@ plain_found arities k (Linear c d) bytes h = absurd cc
 plain_found arities k (Rewrite b) bytes h = absurd cc
 plain_found arities k r bytes h = record { spelled = refl; fits = tt; named = refl; count = refl }
 
-fit_term : (k : ℕ) (bytes : List ℕ) (t : Term) (rest : List ℕ) → term_at 1000 k bytes ≡ Ok (t, rest) → ItemFound term_text (TermFits k) bytes t rest
-fit_term k bytes t rest e = let f = term_found 1000 k bytes t rest e in record { spelled = f.spelled; fits = record { in_range = f.in_range; levels = f.depth } }
+fit_term : (k : ℕ) (bytes : List ℕ) (t : Term) (rest : List ℕ) → term_at MAX_LINE_LEVELS k bytes ≡ Ok (t, rest) → ItemFound term_text (TermFits k) bytes t rest
+fit_term k bytes t rest e = let f = term_found MAX_LINE_LEVELS k bytes t rest e in record { spelled = f.spelled; fits = record { in_range = f.in_range; levels = f.depth } }
 
 factor_found : (bytes : List ℕ) (z : ℤ) (rest : List ℕ) → says_at literal_of bytes ≡ Ok (z, rest) → ItemFound literal_text IsI64 bytes z rest
 factor_found bytes z rest e = let f = literal_at_found bytes z rest e in record { spelled = f.parts; fits = f.fits }
@@ -156,17 +157,17 @@ factor_found bytes z rest e = let f = literal_at_found bytes z rest e in record 
 inst_found : (arities : List ℕ) (k : ℕ) (bytes : List ℕ) (r : Rule) (rest : List ℕ) → args_at arities k sign.Inst bytes ≡ Ok (r, rest) → ArgsFound arities k sign.Inst bytes r rest
 unfolding args_at args_text ArgsFit part_as
 inst_found arities k bytes r rest e =
-    with_ok (part_at (list_at 1000 (term_at 1000 k)) bytes) _ (r, rest) e (λ ts et ht.
-    let p = part_found (list_at 1000 (term_at 1000 k)) bytes ts.0 ts.1 et in
-    let f = list_found 1000 (term_at 1000 k) term_text (TermFits k) p.at ts.0 ts.1 (λ b t q h. fit_term k b t q h) p.read in
+    with_ok (part_at (list_at MAX_LINE_TERMS (term_at MAX_LINE_LEVELS k)) bytes) _ (r, rest) e (λ ts et ht.
+    let p = part_found (list_at MAX_LINE_TERMS (term_at MAX_LINE_LEVELS k)) bytes ts.0 ts.1 et in
+    let f = list_found MAX_LINE_TERMS (term_at MAX_LINE_LEVELS k) term_text (TermFits k) p.at ts.0 ts.1 (λ b t q h. fit_term k b t q h) p.read in
     subst (λ (x : Rule × List ℕ). ArgsFound arities k sign.Inst bytes x.0 x.1) (ok_is {A = Rule × List ℕ} (Inst ts.0, ts.1) (r, rest) ht)
     (record { spelled = p.parts ∙ ap (λ x. 32 ∷ x) f.spelled; fits = (f.few, f.fits); named = refl; count = refl }))
 
 all_found : (arities : List ℕ) (k : ℕ) (bytes : List ℕ) (r : Rule) (rest : List ℕ) → args_at arities k sign.AllE bytes ≡ Ok (r, rest) → ArgsFound arities k sign.AllE bytes r rest
 unfolding args_at args_text ArgsFit part_as
 all_found arities k bytes r rest e =
-    with_ok (part_at (term_at 1000 k) bytes) _ (r, rest) e (λ t et ht.
-    let p = part_found (term_at 1000 k) bytes t.0 t.1 et in
+    with_ok (part_at (term_at MAX_LINE_LEVELS k) bytes) _ (r, rest) e (λ t et ht.
+    let p = part_found (term_at MAX_LINE_LEVELS k) bytes t.0 t.1 et in
     let f = fit_term k p.at t.0 t.1 p.read in
     subst (λ (x : Rule × List ℕ). ArgsFound arities k sign.AllE bytes x.0 x.1) (ok_is {A = Rule × List ℕ} (AllE t.0, t.1) (r, rest) ht)
     (record { spelled = p.parts ∙ ap (λ x. 32 ∷ x) f.spelled; fits = f.fits; named = refl; count = refl }))
@@ -174,8 +175,8 @@ all_found arities k bytes r rest e =
 ex_found : (arities : List ℕ) (k : ℕ) (bytes : List ℕ) (r : Rule) (rest : List ℕ) → args_at arities k sign.ExI bytes ≡ Ok (r, rest) → ArgsFound arities k sign.ExI bytes r rest
 unfolding args_at args_text ArgsFit part_as
 ex_found arities k bytes r rest e =
-    with_ok (part_at (term_at 1000 k) bytes) _ (r, rest) e (λ t et ht.
-    let p = part_found (term_at 1000 k) bytes t.0 t.1 et in
+    with_ok (part_at (term_at MAX_LINE_LEVELS k) bytes) _ (r, rest) e (λ t et ht.
+    let p = part_found (term_at MAX_LINE_LEVELS k) bytes t.0 t.1 et in
     let f = fit_term k p.at t.0 t.1 p.read in
     subst (λ (x : Rule × List ℕ). ArgsFound arities k sign.ExI bytes x.0 x.1) (ok_is {A = Rule × List ℕ} (ExI t.0, t.1) (r, rest) ht)
     (record { spelled = p.parts ∙ ap (λ x. 32 ∷ x) f.spelled; fits = f.fits; named = refl; count = refl }))
@@ -192,9 +193,9 @@ linear_found arities k bytes r rest e =
 rewrite_found : (arities : List ℕ) (k : ℕ) (bytes : List ℕ) (r : Rule) (rest : List ℕ) → args_at arities k sign.Rewrite bytes ≡ Ok (r, rest) → ArgsFound arities k sign.Rewrite bytes r rest
 unfolding args_at args_text ArgsFit part_as
 rewrite_found arities k bytes r rest e =
-    with_ok (part_at (formula_at arities 1000 (suc k)) bytes) _ (r, rest) e (λ b eb hb.
-    let p = part_found (formula_at arities 1000 (suc k)) bytes b.0 b.1 eb in
-    let f = formula_found arities 1000 (suc k) p.at b.0 b.1 p.read in
+    with_ok (part_at (formula_at arities MAX_LINE_LEVELS (suc k)) bytes) _ (r, rest) e (λ b eb hb.
+    let p = part_found (formula_at arities MAX_LINE_LEVELS (suc k)) bytes b.0 b.1 eb in
+    let f = formula_found arities MAX_LINE_LEVELS (suc k) p.at b.0 b.1 p.read in
     subst (λ (x : Rule × List ℕ). ArgsFound arities k sign.Rewrite bytes x.0 x.1) (ok_is {A = Rule × List ℕ} (Rewrite b.0, b.1) (r, rest) hb)
     (record { spelled = p.parts ∙ ap (λ x. 32 ∷ x) f.spelled; fits = record { in_range = f.in_range; levels = f.depth }; named = refl; count = refl }))
 

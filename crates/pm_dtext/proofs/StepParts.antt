@@ -2,6 +2,7 @@
 use Rattle.std.proofs.Common.{◌≡◌, ℕ, List, refl, ◌∙◌, Result, Ok, Err}
 use Rattle.std.specs.Prelude.{nat_le}
 use Rattle.std.specs.Fmt.{decimal}
+use Rattle.pm_logic.specs.declared.limits.TheConstants.{MAX_LINE_VARIABLES}
 use Rattle.pm_dtext.specs.declared.fault.Fault.{Fault}
 use Rattle.pm_dtext.specs.declared.signs.RuleSign.{RuleSign}
 use Rattle.pm_dtext.specs.declared.line.Line.TheVariants.{Step}
@@ -34,6 +35,6 @@ unfolding step_at step_in_parts front_at
 step_whole arities n bytes =
     along (expect_at (decimal n) bytes) _ _
     ∙ same_rest (expect_at (decimal n) bytes) _ _ (λ a.
-    two_steps (part_at (says_at rule_sign_of) a) (λ sign. part_at (says_at (up_to 1000)) sign.1) (λ sign k. (sign.0, k.0, k.1)) (λ f. cites_at n (count_of f.0) f.2 >>= λ c. derived_at arities f.1 f.0 c.2 >>= λ d. ends_at (Step d.0 c.0 c.1 d.1, d.2))
+    two_steps (part_at (says_at rule_sign_of) a) (λ sign. part_at (says_at (up_to MAX_LINE_VARIABLES)) sign.1) (λ sign k. (sign.0, k.0, k.1)) (λ f. cites_at n (count_of f.0) f.2 >>= λ c. derived_at arities f.1 f.0 c.2 >>= λ d. ends_at (Step d.0 c.0 c.1 d.1, d.2))
     ∙ same_rest (part_at (says_at rule_sign_of) a) _ _ (λ sign.
-    same_rest (part_at (says_at (up_to 1000)) sign.1) _ _ (λ k. behind_front arities n k.0 sign.0 k.1)))
+    same_rest (part_at (says_at (up_to MAX_LINE_VARIABLES)) sign.1) _ _ (λ k. behind_front arities n k.0 sign.0 k.1)))

@@ -4,6 +4,7 @@ use Rattle.pm_logic.specs.declared.formula.Formula.{Formula}
 use Rattle.pm_logic.specs.declared.formula.Pred.{Pred}
 use Rattle.pm_logic.specs.declared.formula.Preds.{Preds}
 use Rattle.pm_logic.specs.Scope.{Scoped}
+use Rattle.pm_logic.specs.Integers.{FormulaIsI64}
 use Rattle.pm_rules.specs.declared.rules.Rule.{Rule}
 use Rattle.pm_rules.specs.Rules.{rule_number}
 use Rattle.pm_dtext.specs.declared.line.Line.{Line}
@@ -47,9 +48,11 @@ pub record PredsAreRead : Type 0 where
 
 -- ---- what fits is scoped
 
--- a formula in its range over a table's arities is scoped in the table
+-- a formula is in its range over a table's arities exactly where it is scoped in the table and its integers have 64 bits
 pub record RangesAreScopes : Type 0 where
   pub scoped : (preds : Preds) (k : ℕ) (f : Formula) → InRange (arities_of preds.list) k f → Scoped preds k f
+  pub integers : (preds : Preds) (k : ℕ) (f : Formula) → InRange (arities_of preds.list) k f → FormulaIsI64 f
+  pub in_range : (preds : Preds) (k : ℕ) (f : Formula) → Scoped preds k f → FormulaIsI64 f → InRange (arities_of preds.list) k f
 
 -- ---- names of rules
 

@@ -1,6 +1,7 @@
 -- A proof line in the parts that the code reads one after another.
 use Rattle.std.specs.Prelude.{ℕ, nat_le, List, Option, Result, Ok}
 use Rattle.std.specs.Fmt.{decimal}
+use Rattle.pm_logic.specs.declared.limits.TheConstants.{MAX_LINE_VARIABLES}
 use Rattle.pm_rules.specs.declared.rules.Rule.{Rule}
 use Rattle.pm_rules.specs.declared.rules.Entail.{Entail}
 use Rattle.pm_dtext.specs.declared.fault.Fault.{Fault}
@@ -14,7 +15,7 @@ unfoldable pub front_at : ℕ → List ℕ → Result (RuleSign × ℕ × List �
 front_at n bytes = do
   a ← expect_at (decimal n) bytes
   sign ← part_at (says_at rule_sign_of) a
-  k ← part_at (says_at (up_to 1000)) sign.1
+  k ← part_at (says_at (up_to MAX_LINE_VARIABLES)) sign.1
   Ok (sign.0, k.0, k.1)
 
 -- the citations of a rule that takes so many premises

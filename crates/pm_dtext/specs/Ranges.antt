@@ -1,7 +1,8 @@
 -- Which values the lines of a derivation text have.
-use Rattle.std.specs.Prelude.{◌≡◌, ℕ, suc, ◌<◌, ◌≤◌, ◌^◌, ℤ, pos, negsuc, nat_le, IsTrue, not, List, length, slice_get, Option, Some, None, is_some, ⊤}
+use Rattle.std.specs.Prelude.{◌≡◌, ℕ, suc, ◌<◌, ◌≤◌, ◌^◌, nat_le, IsTrue, not, List, length, slice_get, Option, Some, None, is_some, ⊤}
 use Rattle.std.specs.List.{AllByRecursion, list_any}
 use Rattle.std.specs.Str.{bytes_eq}
+use Rattle.pm_logic.specs.declared.limits.TheConstants.{MAX_LINE_LEVELS, MAX_LINE_TERMS, MAX_LINE_VARIABLES, MAX_PREDICATES, MAX_VARIABLES}
 use Rattle.pm_logic.specs.declared.formula.Term.{Term}
 use Rattle.pm_logic.specs.declared.formula.Term.TheVariants.{Lit, Var}
 use Rattle.pm_logic.specs.declared.formula.Pure.{Pure}
@@ -11,6 +12,7 @@ use Rattle.pm_logic.specs.declared.formula.Formula.TheVariants.{Pure as Fact, Pt
 use Rattle.pm_logic.specs.declared.formula.Pred.{Pred}
 use Rattle.pm_logic.specs.declared.formula.TheConstants.{UNIT}
 use Rattle.pm_logic.specs.Trees.{add, sub, neg, scale, both, either, nope, Sep, Wand, And, Or, Imp, All, Ex, Later, Pers, Upd}
+pub use Rattle.pm_logic.specs.Integers.{IsI64}
 use Rattle.pm_logic.specs.Size.{term_depth, depth_of}
 use Rattle.pm_rules.specs.declared.rules.Rule.{Rule}
 use Rattle.pm_rules.specs.declared.rules.Rule.TheVariants.{Inst, AllE, ExI, Linear, Rewrite}
@@ -19,10 +21,6 @@ use Rattle.pm_rules.specs.Rules.{premise_count}
 use Rattle.pm_names.specs.Names.{is_name}
 use Rattle.pm_dtext.specs.declared.line.Line.{Line}
 use Rattle.pm_dtext.specs.declared.line.Line.TheVariants.{Step, Qed}
-
-abbrev pub IsI64 : ℤ → Type 0
-IsI64 (pos n) = n < 2 ^ 63
-IsI64 (negsuc n) = n < 2 ^ 63
 
 -- ---- terms, pure formulas and formulas with k variables
 
@@ -64,14 +62,14 @@ InRange arities k (Upd p) = InRange arities k p
 InRange arities k (Pts l u v) = TermInRange k l × (1 ≤ u) × (u ≤ UNIT) × TermInRange k v
 InRange arities k (Call p ts) = HasArity arities p (length ts) × AllByRecursion (TermInRange k) ts
 
--- in range, and at most 1000 deep
+-- in range, and at most MAX_LINE_LEVELS deep
 pub record TermFits (k : ℕ) (t : Term) : Type 0 where
   pub in_range : TermInRange k t
-  pub levels : term_depth t ≤ 1000
+  pub levels : term_depth t ≤ MAX_LINE_LEVELS
 
 pub record FormulaFits (arities : List ℕ) (k : ℕ) (f : Formula) : Type 0 where
   pub in_range : InRange arities k f
-  pub levels : depth_of f ≤ 1000
+  pub levels : depth_of f ≤ MAX_LINE_LEVELS
 
 -- ---- lines
 
@@ -87,20 +85,20 @@ CiteFits n (Some cited) = IsEarlier n cited
 
 -- what a rule takes besides premises and a conclusion with k variables
 unfoldable pub ArgsFit : List ℕ → ℕ → Rule → Type 0
-ArgsFit arities k (Inst sigma) = (length sigma ≤ 1000) × AllByRecursion (TermFits k) sigma
+ArgsFit arities k (Inst sigma) = (length sigma ≤ MAX_LINE_TERMS) × AllByRecursion (TermFits k) sigma
 ArgsFit arities k (AllE t) = TermFits k t
 ArgsFit arities k (ExI t) = TermFits k t
 ArgsFit arities k (Linear c d) = ((length c ≤ 66) × AllByRecursion IsI64 c) × ((length d ≤ 66) × AllByRecursion IsI64 d)
 ArgsFit arities k (Rewrite b) = FormulaFits arities (suc k) b
 ArgsFit arities k _ = Unit {0}
 
--- as many citations as the rule has premises, at most 1000 variables, and arguments and both sides over them
+-- as many citations as the rule has premises, at most MAX_LINE_VARIABLES variables, and arguments and both sides over them
 pub record StepFits (arities : List ℕ) (n : ℕ) (rule : Rule) (first second : Option ℕ) (e : Entail) : Type 0 where
   pub first_stands : is_some first ≡ nat_le 1 (premise_count rule)
   pub second_stands : is_some second ≡ nat_le 2 (premise_count rule)
   pub first_fits : CiteFits n first
   pub second_fits : CiteFits n second
-  pub vars : e.vars ≤ 1000
+  pub vars : e.vars ≤ MAX_LINE_VARIABLES
   pub args : ArgsFit arities e.vars rule
   pub left : FormulaFits arities e.vars e.left
   pub right : FormulaFits arities e.vars e.right
@@ -113,7 +111,7 @@ LineFits arities n (Qed name cited) = IsTrue (is_name name) × IsEarlier n cited
 -- ---- the lines before them
 
 abbrev pub AritiesFit : List ℕ → Type 0
-AritiesFit arities = (length arities ≤ 64) × AllByRecursion (λ a. a ≤ 64) arities
+AritiesFit arities = (length arities ≤ MAX_PREDICATES) × AllByRecursion (λ a. a ≤ MAX_VARIABLES) arities
 
 -- the next predicate, where these names are taken
 pub record PredFits (arities : List ℕ) (names : List (List ℕ)) (q : Pred) : Type 0 where

@@ -5,6 +5,7 @@ use Rattle.std.specs.List.{prefix_len, list_any}
 use Rattle.std.specs.Option.{option_map}
 use Rattle.std.specs.Str.{bytes_eq}
 use Rattle.std.specs.Str.Parse.{digits_value}
+use Rattle.pm_logic.specs.declared.limits.TheConstants.{MAX_LINE_LEVELS, MAX_LINE_TERMS, MAX_LINE_VARIABLES, MAX_PREDICATES, MAX_VARIABLES}
 use Rattle.pm_logic.specs.declared.formula.Term.{Term}
 use Rattle.pm_logic.specs.declared.formula.Term.TheVariants.{Lit, Var}
 use Rattle.pm_logic.specs.declared.formula.Term.TheViews as term
@@ -381,11 +382,11 @@ count_of rule_sign.Rewrite = premise_count (rule.Rewrite (Fact True))
 -- the arguments of a rule, where its conclusion has k variables
 unfoldable pub args_at : List ℕ → ℕ → RuleSign → List ℕ → Result (Rule × List ℕ) Fault
 args_at arities k (rule_sign.Plain r) bytes = Ok (r, bytes)
-args_at arities k rule_sign.Inst bytes = part_as rule.Inst (list_at 1000 (term_at 1000 k)) bytes
-args_at arities k rule_sign.AllE bytes = part_as rule.AllE (term_at 1000 k) bytes
-args_at arities k rule_sign.ExI bytes = part_as rule.ExI (term_at 1000 k) bytes
+args_at arities k rule_sign.Inst bytes = part_as rule.Inst (list_at MAX_LINE_TERMS (term_at MAX_LINE_LEVELS k)) bytes
+args_at arities k rule_sign.AllE bytes = part_as rule.AllE (term_at MAX_LINE_LEVELS k) bytes
+args_at arities k rule_sign.ExI bytes = part_as rule.ExI (term_at MAX_LINE_LEVELS k) bytes
 args_at arities k rule_sign.Linear bytes = parts_at rule.Linear (list_at 66 (says_at literal_of)) bytes
-args_at arities k rule_sign.Rewrite bytes = part_as rule.Rewrite (formula_at arities 1000 (suc k)) bytes
+args_at arities k rule_sign.Rewrite bytes = part_as rule.Rewrite (formula_at arities MAX_LINE_LEVELS (suc k)) bytes
 
 -- ---- lines, where n is the number of the next proof line
 
@@ -405,7 +406,7 @@ entail_of k left right = record { vars = k; left = left; right = right }
 
 -- both sides of an entailment with k variables
 unfoldable pub entail_at : List ℕ → ℕ → List ℕ → Result (Entail × List ℕ) Fault
-entail_at arities k bytes = parts_at (entail_of k) (formula_at arities 1000 k) bytes
+entail_at arities k bytes = parts_at (entail_of k) (formula_at arities MAX_LINE_LEVELS k) bytes
 
 -- a line's end behind what was read
 unfoldable pub ends_at : {A : Type 0} → A × List ℕ → Result (A × List ℕ) Fault
@@ -417,7 +418,7 @@ unfoldable pub step_at : List ℕ → ℕ → List ℕ → Result (Line × List 
 step_at arities n bytes = do
   a ← expect_at (decimal n) bytes
   sign ← part_at (says_at rule_sign_of) a
-  k ← part_at (says_at (up_to 1000)) sign.1
+  k ← part_at (says_at (up_to MAX_LINE_VARIABLES)) sign.1
   first ← cite_at n (nat_le 1 (count_of sign.0)) k.1
   second ← cite_at n (nat_le 2 (count_of sign.0)) first.1
   rule ← args_at arities k.0 sign.0 second.1
@@ -452,18 +453,18 @@ abbrev pub ends_line : List ℕ → Bool
 ends_line [] = false
 ends_line (b ∷ bytes) = b == 10
 
--- numbers of at most 64 up to the line's end, at most so many
+-- numbers of at most MAX_VARIABLES up to the line's end, at most so many
 unfoldable pub numbers_at : ℕ → List ℕ → Result (List ℕ × List ℕ) Fault
 numbers_at zero bytes = ends_at ([], bytes)
 numbers_at (suc most) bytes =
     if ends_line bytes then ends_at ([], bytes)
     else do
-      n ← part_at (says_at (up_to 64)) bytes
+      n ← part_at (says_at (up_to MAX_VARIABLES)) bytes
       ns ← numbers_at most n.1
       Ok (n.0 ∷ ns.0, ns.1)
 
 unfoldable pub arities_at : List ℕ → Result (List ℕ × List ℕ) Fault
-arities_at bytes = expect_at (codes "arities") bytes >>= numbers_at 64
+arities_at bytes = expect_at (codes "arities") bytes >>= numbers_at MAX_PREDICATES
 
 -- a name that isn't one of these
 unfoldable pub new_name_of : List (List ℕ) → List ℕ → Option (List ℕ)
@@ -474,5 +475,5 @@ unfoldable pub pred_at : List ℕ → List (List ℕ) → ℕ → List ℕ → R
 pred_at arities names n bytes = do
   a ← expect_at (codes "pred") bytes
   name ← part_at (says_at (new_name_of names)) a
-  body ← part_at (formula_at arities 1000 n) name.1
+  body ← part_at (formula_at arities MAX_LINE_LEVELS n) name.1
   ends_at (record { name = name.0; arity = n; body = body.0 }, body.1)

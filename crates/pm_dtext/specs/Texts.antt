@@ -1,5 +1,6 @@
 -- What the calls that read one line answer.
 use Rattle.std.specs.Prelude.{◌≡◌, ℕ, suc, ◌+◌, ◌-◌, List, [], ◌∷◌, ◌++◌, codes, map, length, Result, Ok, Err}
+use denote.Ref.{Bor}
 use Rattle.pm_logic.specs.declared.formula.Pred.{Pred}
 use Rattle.pm_dtext.specs.declared.fault.Fault.{Fault}
 use Rattle.pm_dtext.specs.declared.fault.Fault.TheVariants.{Syntax, NoLine, Deep}
@@ -22,10 +23,33 @@ abbrev pub Gives : {X Y : Type 0} → (X → Y) → Result X ReadFault → Resul
 Gives view (Ok x) read = read ≡ Ok (view x)
 Gives view (Err e) read = Fails e read
 
--- the same of a function that takes no memory
+-- a part of the front, and the bytes that are left
+abbrev pub ReadsAs : {A : Type 0} → Result (A × Bor (List ℕ)) ReadFault → Result (A × List ℕ) Fault → Type 0
+ReadsAs result read = Gives (λ x. (x.0, x.1.now)) result read
+
+-- two parts
+abbrev pub ReadsTwoAs : {A B : Type 0} → Result (A × B × Bor (List ℕ)) ReadFault → Result (A × B × List ℕ) Fault → Type 0
+ReadsTwoAs result read = Gives (λ x. (x.0, x.1, x.2.now)) result read
+
+-- ---- the same of a function that takes no memory
+
 abbrev pub Reads : {X Y : Type 0} → (X → Y) → Result X Fault → Result Y Fault → Type 0
 Reads view (Ok x) read = read ≡ Ok (view x)
 Reads view (Err f) read = read ≡ Err f
+
+abbrev pub ReadsExactly : {A : Type 0} → Result (A × Bor (List ℕ)) Fault → Result (A × List ℕ) Fault → Type 0
+ReadsExactly result read = Reads (λ x. (x.0, x.1.now)) result read
+
+abbrev pub ReadsTwoExactly : {A B : Type 0} → Result (A × B × Bor (List ℕ)) Fault → Result (A × B × List ℕ) Fault → Type 0
+ReadsTwoExactly result read = Reads (λ x. (x.0, x.1, x.2.now)) result read
+
+-- bytes of the text, and those that are left
+abbrev pub ReadsWord : Result (Bor (List ℕ) × Bor (List ℕ)) Fault → Result (List ℕ × List ℕ) Fault → Type 0
+ReadsWord result read = Reads (λ x. (x.0.now, x.1.now)) result read
+
+-- the bytes that are left alone
+abbrev pub LeavesExactly : Result (Bor (List ℕ)) Fault → Result (List ℕ) Fault → Type 0
+LeavesExactly result read = Reads (λ x. x.now) result read
 
 -- ---- calls that read a whole text, which answer by offsets
 

@@ -1,7 +1,8 @@
 //! Predicates by their places in a table.
 
 ghost use Rattle.std.specs.Prelude.{◌≡◌, ◌≤◌, length, slice_get};
-ghost use Rattle.pm_dtext.specs.Texts.{Reads, told};
+ghost use Rattle.pm_logic.specs.declared.limits.TheConstants.{MAX_TABLE};
+ghost use Rattle.pm_dtext.specs.Texts.{ReadsExactly, told};
 ghost use Rattle.pm_dtext.specs.Reading.{predicate_of, says_at};
 
 use crate::fault::Fault;
@@ -33,7 +34,7 @@ fn arity_of(arities: Arities, place: u64) -> Option<u32>
 /// The predicate that a word names, and its arity.
 #[tactic(auto, unfolding(crate::specs::Reading::predicate_of), using(crate::proofs::Tables::place_within))]
 fn predicate_of(arities: Arities, word: &[u8]) -> Option<(u32, u32)>
-    requires { length (told arities) ≤ 1000000 }
+    requires { length (told arities) ≤ MAX_TABLE }
     ensures { result ≡ predicate_of (told arities.entry) word.now }
 {
     match number_of(word) {
@@ -48,8 +49,8 @@ fn predicate_of(arities: Arities, word: &[u8]) -> Option<(u32, u32)>
 /// The predicate at the front with its arity, and what follows it.
 #[tactic(auto, unfolding(crate::specs::Reading::says_at))]
 pub fn predicate<'a>(arities: Arities, bytes: &'a [u8]) -> Result<((u32, u32), &'a [u8]), Fault>
-    requires { length (told arities) ≤ 1000000 }
-    ensures { Reads (λ x. (x.0, x.1.now)) result (says_at (predicate_of (told arities.entry)) bytes.now) }
+    requires { length (told arities) ≤ MAX_TABLE }
+    ensures { ReadsExactly result (says_at (predicate_of (told arities.entry)) bytes.now) }
 {
     let (word, rest) = word_of(bytes);
     match predicate_of(arities, word) {

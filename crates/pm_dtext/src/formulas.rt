@@ -1,10 +1,11 @@
 //! Formulas. Each reader takes how many levels there may be, and how many variables there are.
 
 ghost use Rattle.std.specs.Prelude.{◌≡◌, ◌+◌, ◌<◌, ◌≤◌, length, IfOk};
+ghost use Rattle.pm_logic.specs.declared.limits.TheConstants.{MAX_TABLE};
 ghost use Rattle.pm_logic.specs.declared.formula.Formula.TheVariants as variants;
 ghost use Rattle.pm_logic.specs.declared.formula.TheConstants.{BOUND};
 ghost use Rattle.pm_rules.specs.Shapes.{one, two};
-ghost use Rattle.pm_dtext.specs.Texts.{Gives, told};
+ghost use Rattle.pm_dtext.specs.Texts.{ReadsAs, ReadsTwoAs, told};
 ghost use Rattle.pm_dtext.specs.Reading.{part_at, part_as, pair_at, parts_at, term_at, pure_at, variables_under, points_at, call_at, formula_under, formula_at};
 
 use crate::arities::{Arities, predicate};
@@ -62,7 +63,7 @@ fn fact<'a>(
     vars: u32,
     bytes: &'a [u8],
 ) -> Result<(Formula, &'a [u8]), ReadFault>
-    ensures { Gives (λ x. (x.0, x.1.now)) result (part_as variants.Pure (pure_at levels vars) bytes.now) }
+    ensures { ReadsAs result (part_as variants.Pure (pure_at levels vars) bytes.now) }
 {
     let (p, rest) = pure(alloc, levels, vars, skip(b' ', bytes)?)?;
     Ok((Formula::Pure(p), rest))
@@ -76,7 +77,7 @@ fn points(
     vars: u32,
     bytes: &[u8],
 ) -> Result<(Formula, &[u8]), ReadFault>
-    ensures { Gives (λ x. (x.0, x.1.now)) result (points_at (term_at levels vars) bytes.now) }
+    ensures { ReadsAs result (points_at (term_at levels vars) bytes.now) }
 {
     let (loc, rest) = terms::part(alloc, levels, vars, bytes)?;
     let (units, rest) = share(rest)?;
@@ -93,8 +94,8 @@ fn call<'a>(
     vars: u32,
     bytes: &'a [u8],
 ) -> Result<(Formula, &'a [u8]), ReadFault>
-    requires { length (told arities) ≤ 1000000 }
-    ensures { Gives (λ x. (x.0, x.1.now)) result (call_at (told arities.entry) (term_at levels vars) bytes.now) }
+    requires { length (told arities) ≤ MAX_TABLE }
+    ensures { ReadsAs result (call_at (told arities.entry) (term_at levels vars) bytes.now) }
 {
     let ((pred, arity), rest) = predicate(arities, skip(b' ', bytes)?)?;
     let (args, rest) = terms::terms(alloc, levels, vars, arity, rest)?;
@@ -111,9 +112,9 @@ pub fn formula<'a>(
     vars: u32,
     bytes: &'a [u8],
 ) -> Result<(Formula, &'a [u8]), ReadFault>
-    requires table { length (told arities) ≤ 1000000 }
+    requires table { length (told arities) ≤ MAX_TABLE }
     requires within { vars + levels ≤ BOUND }
-    ensures { Gives (λ x. (x.0, x.1.now)) result (formula_at (told arities.entry) levels vars bytes.now) }
+    ensures { ReadsAs result (formula_at (told arities.entry) levels vars bytes.now) }
 {
     let (sign, rest) = formula_sign(bytes)?;
     if levels == 0 {
@@ -133,9 +134,9 @@ fn formula_under<'a>(
     vars: u32,
     bytes: &'a [u8],
 ) -> Result<(Formula, &'a [u8]), ReadFault>
-    requires table { length (told arities) ≤ 1000000 }
+    requires table { length (told arities) ≤ MAX_TABLE }
     requires within { vars + levels < BOUND }
-    ensures { Gives (λ x. (x.0, x.1.now)) result (formula_under (told arities.entry) sign vars (pure_at levels vars) (term_at levels vars) (formula_at (told arities.entry) levels) bytes.now) }
+    ensures { ReadsAs result (formula_under (told arities.entry) sign vars (pure_at levels vars) (term_at levels vars) (formula_at (told arities.entry) levels) bytes.now) }
 {
     match sign {
         FormulaSign::Pure => fact(alloc, levels, vars, bytes),
@@ -156,9 +157,9 @@ fn two_under<'a>(
     vars: u32,
     bytes: &'a [u8],
 ) -> Result<(Formula, &'a [u8]), ReadFault>
-    requires table { length (told arities) ≤ 1000000 }
+    requires table { length (told arities) ≤ MAX_TABLE }
     requires within { vars + levels < BOUND }
-    ensures { Gives (λ x. (x.0, x.1.now)) result (parts_at (two sign) (formula_at (told arities.entry) levels vars) bytes.now) }
+    ensures { ReadsAs result (parts_at (two sign) (formula_at (told arities.entry) levels vars) bytes.now) }
 {
     let (left, right, rest) = two_formulas(alloc, arities, levels, vars, bytes)?;
     Ok((joined(alloc, sign, left, right)?, rest))
@@ -174,9 +175,9 @@ fn one_under<'a>(
     vars: u32,
     bytes: &'a [u8],
 ) -> Result<(Formula, &'a [u8]), ReadFault>
-    requires table { length (told arities) ≤ 1000000 }
+    requires table { length (told arities) ≤ MAX_TABLE }
     requires within { vars + levels < BOUND }
-    ensures { Gives (λ x. (x.0, x.1.now)) result (part_as (one sign) (formula_at (told arities.entry) levels (variables_under sign vars)) bytes.now) }
+    ensures { ReadsAs result (part_as (one sign) (formula_at (told arities.entry) levels (variables_under sign vars)) bytes.now) }
 {
     let under = variables_under(sign, vars);
     let (f, rest) = part(alloc, arities, levels, under, bytes)?;
@@ -193,9 +194,9 @@ pub fn part<'a>(
     vars: u32,
     bytes: &'a [u8],
 ) -> Result<(Formula, &'a [u8]), ReadFault>
-    requires table { length (told arities) ≤ 1000000 }
+    requires table { length (told arities) ≤ MAX_TABLE }
     requires within { vars + levels ≤ BOUND }
-    ensures { Gives (λ x. (x.0, x.1.now)) result (part_at (formula_at (told arities.entry) levels vars) bytes.now) }
+    ensures { ReadsAs result (part_at (formula_at (told arities.entry) levels vars) bytes.now) }
 {
     formula(alloc, arities, levels, vars, skip(b' ', bytes)?)
 }
@@ -210,9 +211,9 @@ pub fn two_formulas<'a>(
     vars: u32,
     bytes: &'a [u8],
 ) -> Result<(Formula, Formula, &'a [u8]), ReadFault>
-    requires table { length (told arities) ≤ 1000000 }
+    requires table { length (told arities) ≤ MAX_TABLE }
     requires within { vars + levels ≤ BOUND }
-    ensures { Gives (λ x. (x.0, x.1, x.2.now)) result (pair_at (formula_at (told arities.entry) levels vars) bytes.now) }
+    ensures { ReadsTwoAs result (pair_at (formula_at (told arities.entry) levels vars) bytes.now) }
 {
     let (left, rest) = part(alloc, arities, levels, vars, bytes)?;
     let (right, rest) = part(alloc, arities, levels, vars, rest)?;

@@ -26,7 +26,8 @@ pub fn preds_are_read()
     ensures { PredsAreRead }
 {}
 
-/// A formula that is in its range over the arities of a table is scoped in the table.
+/// A formula is in its range over the arities of a table exactly where it is scoped in the table and its integers have 64
+/// bits, which pm_logic's `formula_is_i64` gives of every formula that code holds.
 #[tactic(auto, using(crate::proofs::Stated::scopes))]
 pub fn ranges_are_scopes()
     ensures { RangesAreScopes }

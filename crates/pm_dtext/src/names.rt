@@ -1,7 +1,7 @@
 //! The rules' names.
 
 ghost use Rattle.std.specs.Prelude.{◌≡◌, ◌-◌, ◌≤◌, ◌<◌, Some, map, slice_get};
-ghost use Rattle.pm_dtext.specs.Texts.{Reads, printed_names};
+ghost use Rattle.pm_dtext.specs.Texts.{ReadsExactly, printed_names};
 ghost use Rattle.pm_dtext.specs.Reading.{named, rule_signs, rule_sign_of, says_at};
 
 use crate::fault::Fault;
@@ -182,7 +182,7 @@ fn rule_sign_of(word: &[u8]) -> Option<RuleSign>
 /// The rule's name at the front, and what follows it.
 #[tactic(auto, unfolding(crate::specs::Reading::says_at))]
 pub fn rule_sign(bytes: &[u8]) -> Result<(RuleSign, &[u8]), Fault>
-    ensures { Reads (λ x. (x.0, x.1.now)) result (says_at rule_sign_of bytes.now) }
+    ensures { ReadsExactly result (says_at rule_sign_of bytes.now) }
 {
     let (word, rest) = word_of(bytes);
     match rule_sign_of(word) {

@@ -1,7 +1,7 @@
 //! Pure formulas. Each reader takes how many levels there may be, and how many variables there are.
 
 ghost use Rattle.std.specs.Prelude.{◌≡◌};
-ghost use Rattle.pm_dtext.specs.Texts.{Gives};
+ghost use Rattle.pm_dtext.specs.Texts.{ReadsAs, ReadsTwoAs};
 ghost use Rattle.pm_dtext.specs.Reading.{part_at, pair_at, part_as, parts_at, term_at, pure_under, pure_at};
 ghost use Rattle.pm_logic.specs.declared.formula.Pure.TheViews as pure;
 ghost use Rattle.pm_logic.specs.declared.formula.Pure.TheVariants as variants;
@@ -17,7 +17,7 @@ use std::alloc::Global;
 #[cycle(pure)]
 #[tactic(auto, using(crate::proofs::Levels::pure_none, crate::proofs::Levels::pure_more))]
 pub fn pure(alloc: Global, levels: u32, vars: u32, bytes: &[u8]) -> Result<(Pure, &[u8]), ReadFault>
-    ensures { Gives (λ x. (x.0, x.1.now)) result (pure_at levels vars bytes.now) }
+    ensures { ReadsAs result (pure_at levels vars bytes.now) }
 {
     let (sign, rest) = pure_sign(bytes)?;
     if levels == 0 {
@@ -37,7 +37,7 @@ fn pure_under(
     vars: u32,
     bytes: &[u8],
 ) -> Result<(Pure, &[u8]), ReadFault>
-    ensures { Gives (λ x. (x.0, x.1.now)) result (pure_under sign (term_at levels vars) (pure_at levels vars) bytes.now) }
+    ensures { ReadsAs result (pure_under sign (term_at levels vars) (pure_at levels vars) bytes.now) }
 {
     match sign {
         PureSign::True => Ok((Pure::True, bytes)),
@@ -53,7 +53,7 @@ fn pure_under(
 
 #[tactic(auto, unfolding(crate::specs::Reading::parts_at))]
 fn equation(alloc: Global, levels: u32, vars: u32, bytes: &[u8]) -> Result<(Pure, &[u8]), ReadFault>
-    ensures { Gives (λ x. (x.0, x.1.now)) result (parts_at variants.Eq (term_at levels vars) bytes.now) }
+    ensures { ReadsAs result (parts_at variants.Eq (term_at levels vars) bytes.now) }
 {
     let (s, t, rest) = two_terms(alloc, levels, vars, bytes)?;
     Ok((Pure::Eq(s, t), rest))
@@ -61,7 +61,7 @@ fn equation(alloc: Global, levels: u32, vars: u32, bytes: &[u8]) -> Result<(Pure
 
 #[tactic(auto, unfolding(crate::specs::Reading::parts_at))]
 fn at_most(alloc: Global, levels: u32, vars: u32, bytes: &[u8]) -> Result<(Pure, &[u8]), ReadFault>
-    ensures { Gives (λ x. (x.0, x.1.now)) result (parts_at variants.Le (term_at levels vars) bytes.now) }
+    ensures { ReadsAs result (parts_at variants.Le (term_at levels vars) bytes.now) }
 {
     let (s, t, rest) = two_terms(alloc, levels, vars, bytes)?;
     Ok((Pure::Le(s, t), rest))
@@ -69,7 +69,7 @@ fn at_most(alloc: Global, levels: u32, vars: u32, bytes: &[u8]) -> Result<(Pure,
 
 #[tactic(auto, unfolding(crate::specs::Reading::parts_at))]
 fn below(alloc: Global, levels: u32, vars: u32, bytes: &[u8]) -> Result<(Pure, &[u8]), ReadFault>
-    ensures { Gives (λ x. (x.0, x.1.now)) result (parts_at variants.Lt (term_at levels vars) bytes.now) }
+    ensures { ReadsAs result (parts_at variants.Lt (term_at levels vars) bytes.now) }
 {
     let (s, t, rest) = two_terms(alloc, levels, vars, bytes)?;
     Ok((Pure::Lt(s, t), rest))
@@ -78,7 +78,7 @@ fn below(alloc: Global, levels: u32, vars: u32, bytes: &[u8]) -> Result<(Pure, &
 #[cycle(pure)]
 #[tactic(auto, unfolding(crate::specs::Reading::parts_at))]
 fn both(alloc: Global, levels: u32, vars: u32, bytes: &[u8]) -> Result<(Pure, &[u8]), ReadFault>
-    ensures { Gives (λ x. (x.0, x.1.now)) result (parts_at pure.And (pure_at levels vars) bytes.now) }
+    ensures { ReadsAs result (parts_at pure.And (pure_at levels vars) bytes.now) }
 {
     let (a, b, rest) = two_pures(alloc, levels, vars, bytes)?;
     Ok((pure_and(alloc, a, b)?, rest))
@@ -87,7 +87,7 @@ fn both(alloc: Global, levels: u32, vars: u32, bytes: &[u8]) -> Result<(Pure, &[
 #[cycle(pure)]
 #[tactic(auto, unfolding(crate::specs::Reading::parts_at))]
 fn either(alloc: Global, levels: u32, vars: u32, bytes: &[u8]) -> Result<(Pure, &[u8]), ReadFault>
-    ensures { Gives (λ x. (x.0, x.1.now)) result (parts_at pure.Or (pure_at levels vars) bytes.now) }
+    ensures { ReadsAs result (parts_at pure.Or (pure_at levels vars) bytes.now) }
 {
     let (a, b, rest) = two_pures(alloc, levels, vars, bytes)?;
     Ok((pure_or(alloc, a, b)?, rest))
@@ -96,7 +96,7 @@ fn either(alloc: Global, levels: u32, vars: u32, bytes: &[u8]) -> Result<(Pure, 
 #[cycle(pure)]
 #[tactic(auto, unfolding(crate::specs::Reading::part_as))]
 fn negation(alloc: Global, levels: u32, vars: u32, bytes: &[u8]) -> Result<(Pure, &[u8]), ReadFault>
-    ensures { Gives (λ x. (x.0, x.1.now)) result (part_as pure.Not (pure_at levels vars) bytes.now) }
+    ensures { ReadsAs result (part_as pure.Not (pure_at levels vars) bytes.now) }
 {
     let (a, rest) = part(alloc, levels, vars, bytes)?;
     Ok((pure_not(alloc, a)?, rest))
@@ -106,7 +106,7 @@ fn negation(alloc: Global, levels: u32, vars: u32, bytes: &[u8]) -> Result<(Pure
 #[cycle(pure)]
 #[tactic(auto, unfolding(crate::specs::Reading::part_at))]
 fn part(alloc: Global, levels: u32, vars: u32, bytes: &[u8]) -> Result<(Pure, &[u8]), ReadFault>
-    ensures { Gives (λ x. (x.0, x.1.now)) result (part_at (pure_at levels vars) bytes.now) }
+    ensures { ReadsAs result (part_at (pure_at levels vars) bytes.now) }
 {
     pure(alloc, levels, vars, skip(b' ', bytes)?)
 }
@@ -120,7 +120,7 @@ fn two_pures(
     vars: u32,
     bytes: &[u8],
 ) -> Result<(Pure, Pure, &[u8]), ReadFault>
-    ensures { Gives (λ x. (x.0, x.1, x.2.now)) result (pair_at (pure_at levels vars) bytes.now) }
+    ensures { ReadsTwoAs result (pair_at (pure_at levels vars) bytes.now) }
 {
     let (a, rest) = part(alloc, levels, vars, bytes)?;
     let (b, rest) = part(alloc, levels, vars, rest)?;

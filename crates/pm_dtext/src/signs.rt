@@ -1,7 +1,7 @@
 //! What the words that terms, formulas and rules begin with say.
 
 ghost use Rattle.std.specs.Prelude.{◌≡◌};
-ghost use Rattle.pm_dtext.specs.Texts.{Reads};
+ghost use Rattle.pm_dtext.specs.Texts.{ReadsExactly};
 ghost use Rattle.pm_dtext.specs.Reading.{leaf_of, term_sign_of, pure_sign_of, formula_sign_of, says_at};
 
 use crate::fault::Fault;
@@ -151,7 +151,7 @@ fn formula_sign_of(word: &[u8]) -> Option<FormulaSign>
 /// What the word at the front of a term says, and what follows it.
 #[tactic(auto, unfolding(crate::specs::Reading::says_at))]
 pub fn term_sign(vars: u32, bytes: &[u8]) -> Result<(TermSign, &[u8]), Fault>
-    ensures { Reads (λ x. (x.0, x.1.now)) result (says_at (term_sign_of vars) bytes.now) }
+    ensures { ReadsExactly result (says_at (term_sign_of vars) bytes.now) }
 {
     let (word, rest) = word_of(bytes);
     match term_sign_of(vars, word) {
@@ -163,7 +163,7 @@ pub fn term_sign(vars: u32, bytes: &[u8]) -> Result<(TermSign, &[u8]), Fault>
 /// What the word at the front of a pure formula says, and what follows it.
 #[tactic(auto, unfolding(crate::specs::Reading::says_at))]
 pub fn pure_sign(bytes: &[u8]) -> Result<(PureSign, &[u8]), Fault>
-    ensures { Reads (λ x. (x.0, x.1.now)) result (says_at pure_sign_of bytes.now) }
+    ensures { ReadsExactly result (says_at pure_sign_of bytes.now) }
 {
     let (word, rest) = word_of(bytes);
     match pure_sign_of(word) {
@@ -175,7 +175,7 @@ pub fn pure_sign(bytes: &[u8]) -> Result<(PureSign, &[u8]), Fault>
 /// What the word at the front of a formula says, and what follows it.
 #[tactic(auto, unfolding(crate::specs::Reading::says_at))]
 pub fn formula_sign(bytes: &[u8]) -> Result<(FormulaSign, &[u8]), Fault>
-    ensures { Reads (λ x. (x.0, x.1.now)) result (says_at formula_sign_of bytes.now) }
+    ensures { ReadsExactly result (says_at formula_sign_of bytes.now) }
 {
     let (word, rest) = word_of(bytes);
     match formula_sign_of(word) {

@@ -3,21 +3,22 @@
 ghost use Rattle.std.specs.Prelude.{◌≡◌, ◌≤◌, length};
 ghost use Rattle.std.specs.List.{list_any};
 ghost use Rattle.std.specs.Str.{bytes_eq};
-ghost use Rattle.pm_dtext.specs.Texts.{Reads, Gives, names_of};
+ghost use Rattle.pm_logic.specs.declared.limits.TheConstants.{MAX_PREDICATES, MAX_VARIABLES};
+ghost use Rattle.pm_dtext.specs.Texts.{ReadsAs, LeavesExactly, ReadsWord, names_of};
 ghost use Rattle.pm_dtext.specs.Reading.{part_at, says_at, up_to, ends_at, ends_line, header_at, numbers_at, arities_at, new_name_of, pred_at};
 
 use crate::arities::Arities;
 use crate::fault::{Fault, ReadFault};
 use crate::formulas;
 use crate::words::{expect, skip, up_to, word_of};
-use pm_logic::{List, Name, Pred};
+use pm_logic::{List, MAX_LINE_LEVELS, MAX_PREDICATES, MAX_VARIABLES, Name, Pred};
 use pm_names::is_name;
 use std::alloc::Global;
 
 /// What follows the first line.
 #[tactic(auto, unfolding(crate::specs::Reading::header_at))]
 pub fn header(bytes: &[u8]) -> Result<&[u8], Fault>
-    ensures { Reads (λ x. x.now) result (header_at bytes.now) }
+    ensures { LeavesExactly result (header_at bytes.now) }
 {
     let rest = expect("mosel-derivation", bytes)?;
     let rest = expect("1", skip(b' ', rest)?)?;
@@ -36,15 +37,15 @@ fn ends_line(bytes: &[u8]) -> bool
 /// An arity behind a blank.
 #[tactic(auto, unfolding(crate::specs::Reading::part_at))]
 fn arity(bytes: &[u8]) -> Result<(u32, &[u8]), ReadFault>
-    ensures { Gives (λ x. (x.0, x.1.now)) result (part_at (says_at (up_to 64)) bytes.now) }
+    ensures { ReadsAs result (part_at (says_at (up_to MAX_VARIABLES)) bytes.now) }
 {
-    Ok(up_to(64, skip(b' ', bytes)?)?)
+    Ok(up_to(MAX_VARIABLES as u32, skip(b' ', bytes)?)?)
 }
 
 /// The arities that were read, behind which the line ends.
 #[tactic(auto, unfolding(crate::specs::Reading::ends_at))]
 fn closed(arities: List<u32>, bytes: &[u8]) -> Result<(List<u32>, &[u8]), ReadFault>
-    ensures { Gives (λ x. (x.0, x.1.now)) result (ends_at (arities, bytes.now)) }
+    ensures { ReadsAs result (ends_at (arities, bytes.now)) }
 {
     let rest = skip(b'\n', bytes)?;
     Ok((arities, rest))
@@ -53,7 +54,7 @@ fn closed(arities: List<u32>, bytes: &[u8]) -> Result<(List<u32>, &[u8]), ReadFa
 /// At most so many arities up to the line's end.
 #[tactic(auto, using(crate::proofs::Lists::numbers_begun, crate::proofs::Lists::numbers_turned, crate::proofs::Lists::numbers_failed, crate::proofs::Lists::numbers_ended))]
 fn numbers(alloc: Global, most: u32, bytes: &[u8]) -> Result<(List<u32>, &[u8]), ReadFault>
-    ensures { Gives (λ x. (x.0, x.1.now)) result (numbers_at most bytes.now) }
+    ensures { ReadsAs result (numbers_at most bytes.now) }
 {
     let mut numbers = List::new(alloc);
     let mut rest = bytes;
@@ -71,9 +72,9 @@ fn numbers(alloc: Global, most: u32, bytes: &[u8]) -> Result<(List<u32>, &[u8]),
 /// The arities at the front, and what follows their line.
 #[tactic(auto, unfolding(crate::specs::Reading::arities_at))]
 pub fn arities(alloc: Global, bytes: &[u8]) -> Result<(List<u32>, &[u8]), ReadFault>
-    ensures { Gives (λ x. (x.0, x.1.now)) result (arities_at bytes.now) }
+    ensures { ReadsAs result (arities_at bytes.now) }
 {
-    numbers(alloc, 64, expect("arities", bytes)?)
+    numbers(alloc, MAX_PREDICATES as u32, expect("arities", bytes)?)
 }
 
 fn has_name(pred: &Pred, word: &[u8]) -> bool
@@ -98,7 +99,7 @@ fn is_taken(preds: &[Pred], word: &[u8]) -> bool
 /// The name at the front, which none of the predicates may have, and what follows it.
 #[tactic(auto, unfolding(crate::specs::Reading::says_at, crate::specs::Reading::new_name_of))]
 fn new_name<'a>(preds: &[Pred], bytes: &'a [u8]) -> Result<(&'a [u8], &'a [u8]), Fault>
-    ensures { Reads (λ x. (x.0.now, x.1.now)) result (says_at (new_name_of (names_of preds.now)) bytes.now) }
+    ensures { ReadsWord result (says_at (new_name_of (names_of preds.now)) bytes.now) }
 {
     let (word, rest) = word_of(bytes);
     if is_name(word) && !is_taken(preds, word) {
@@ -111,7 +112,7 @@ fn new_name<'a>(preds: &[Pred], bytes: &'a [u8]) -> Result<(&'a [u8], &'a [u8]),
 /// Such a name behind a blank.
 #[tactic(auto, unfolding(crate::specs::Reading::part_at))]
 fn name_part<'a>(preds: &[Pred], bytes: &'a [u8]) -> Result<(&'a [u8], &'a [u8]), Fault>
-    ensures { Reads (λ x. (x.0.now, x.1.now)) result (part_at (says_at (new_name_of (names_of preds.now))) bytes.now) }
+    ensures { ReadsWord result (part_at (says_at (new_name_of (names_of preds.now))) bytes.now) }
 {
     new_name(preds, skip(b' ', bytes)?)
 }
@@ -125,13 +126,19 @@ pub fn pred<'a>(
     arity: u32,
     bytes: &'a [u8],
 ) -> Result<(Pred, &'a [u8]), ReadFault>
-    requires table { length arities.now ≤ 64 }
-    requires few { arity ≤ 64 }
-    ensures { Gives (λ x. (x.0, x.1.now)) result (pred_at arities.now (names_of preds.now) arity bytes.now) }
+    requires table { length arities.now ≤ MAX_PREDICATES }
+    requires few { arity ≤ MAX_VARIABLES }
+    ensures { ReadsAs result (pred_at arities.now (names_of preds.now) arity bytes.now) }
 {
     let rest = expect("pred", bytes)?;
     let (name, rest) = name_part(preds, rest)?;
-    let (body, rest) = formulas::part(alloc, Arities::Listed(arities), 1000, arity, rest)?;
+    let (body, rest) = formulas::part(
+        alloc,
+        Arities::Listed(arities),
+        MAX_LINE_LEVELS,
+        arity,
+        rest,
+    )?;
     let rest = skip(b'\n', rest)?;
     let name = Name::from_bytes(alloc, name)?;
     Ok((Pred { name, arity, body }, rest))

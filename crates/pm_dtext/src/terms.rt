@@ -1,7 +1,7 @@
 //! Terms. Each reader takes how many levels there may be, and how many variables there are.
 
 ghost use Rattle.std.specs.Prelude.{◌≡◌};
-ghost use Rattle.pm_dtext.specs.Texts.{Gives};
+ghost use Rattle.pm_dtext.specs.Texts.{ReadsAs, ReadsTwoAs};
 ghost use Rattle.pm_dtext.specs.Reading.{part_at, pair_at, part_as, parts_at, items_at, term_under, term_at};
 ghost use Rattle.pm_logic.specs.declared.formula.Term.TheViews as term;
 ghost use Rattle.pm_dtext.specs.declared.signs.TermSign.TheVariants as signs;
@@ -16,7 +16,7 @@ use std::alloc::Global;
 #[cycle(term)]
 #[tactic(auto, using(crate::proofs::Levels::term_none, crate::proofs::Levels::term_more))]
 pub fn term(alloc: Global, levels: u32, vars: u32, bytes: &[u8]) -> Result<(Term, &[u8]), ReadFault>
-    ensures { Gives (λ x. (x.0, x.1.now)) result (term_at levels vars bytes.now) }
+    ensures { ReadsAs result (term_at levels vars bytes.now) }
 {
     let (sign, rest) = term_sign(vars, bytes)?;
     if levels == 0 {
@@ -35,7 +35,7 @@ fn term_under(
     vars: u32,
     bytes: &[u8],
 ) -> Result<(Term, &[u8]), ReadFault>
-    ensures { Gives (λ x. (x.0, x.1.now)) result (term_under sign (term_at levels vars) bytes.now) }
+    ensures { ReadsAs result (term_under sign (term_at levels vars) bytes.now) }
 {
     match sign {
         TermSign::Lit(z) => Ok((Term::Lit(z), bytes)),
@@ -50,7 +50,7 @@ fn term_under(
 #[cycle(term)]
 #[tactic(auto, unfolding(crate::specs::Reading::parts_at))]
 fn sum(alloc: Global, levels: u32, vars: u32, bytes: &[u8]) -> Result<(Term, &[u8]), ReadFault>
-    ensures { Gives (λ x. (x.0, x.1.now)) result (parts_at term.Add (term_at levels vars) bytes.now) }
+    ensures { ReadsAs result (parts_at term.Add (term_at levels vars) bytes.now) }
 {
     let (left, right, rest) = two_terms(alloc, levels, vars, bytes)?;
     Ok((add(alloc, left, right)?, rest))
@@ -64,7 +64,7 @@ fn difference(
     vars: u32,
     bytes: &[u8],
 ) -> Result<(Term, &[u8]), ReadFault>
-    ensures { Gives (λ x. (x.0, x.1.now)) result (parts_at term.Sub (term_at levels vars) bytes.now) }
+    ensures { ReadsAs result (parts_at term.Sub (term_at levels vars) bytes.now) }
 {
     let (left, right, rest) = two_terms(alloc, levels, vars, bytes)?;
     Ok((sub(alloc, left, right)?, rest))
@@ -73,7 +73,7 @@ fn difference(
 #[cycle(term)]
 #[tactic(auto, unfolding(crate::specs::Reading::part_as))]
 fn negative(alloc: Global, levels: u32, vars: u32, bytes: &[u8]) -> Result<(Term, &[u8]), ReadFault>
-    ensures { Gives (λ x. (x.0, x.1.now)) result (part_as term.Neg (term_at levels vars) bytes.now) }
+    ensures { ReadsAs result (part_as term.Neg (term_at levels vars) bytes.now) }
 {
     let (t, rest) = part(alloc, levels, vars, bytes)?;
     Ok((neg(alloc, t)?, rest))
@@ -82,7 +82,7 @@ fn negative(alloc: Global, levels: u32, vars: u32, bytes: &[u8]) -> Result<(Term
 #[cycle(term)]
 #[tactic(auto, unfolding(crate::specs::Reading::term_under))]
 fn product(alloc: Global, levels: u32, vars: u32, bytes: &[u8]) -> Result<(Term, &[u8]), ReadFault>
-    ensures { Gives (λ x. (x.0, x.1.now)) result (term_under signs.Scale (term_at levels vars) bytes.now) }
+    ensures { ReadsAs result (term_under signs.Scale (term_at levels vars) bytes.now) }
 {
     let (z, rest) = factor(bytes)?;
     let (t, rest) = part(alloc, levels, vars, rest)?;
@@ -93,7 +93,7 @@ fn product(alloc: Global, levels: u32, vars: u32, bytes: &[u8]) -> Result<(Term,
 #[cycle(term)]
 #[tactic(auto, unfolding(crate::specs::Reading::part_at))]
 pub fn part(alloc: Global, levels: u32, vars: u32, bytes: &[u8]) -> Result<(Term, &[u8]), ReadFault>
-    ensures { Gives (λ x. (x.0, x.1.now)) result (part_at (term_at levels vars) bytes.now) }
+    ensures { ReadsAs result (part_at (term_at levels vars) bytes.now) }
 {
     term(alloc, levels, vars, skip(b' ', bytes)?)
 }
@@ -107,7 +107,7 @@ pub fn two_terms(
     vars: u32,
     bytes: &[u8],
 ) -> Result<(Term, Term, &[u8]), ReadFault>
-    ensures { Gives (λ x. (x.0, x.1, x.2.now)) result (pair_at (term_at levels vars) bytes.now) }
+    ensures { ReadsTwoAs result (pair_at (term_at levels vars) bytes.now) }
 {
     let (left, rest) = part(alloc, levels, vars, bytes)?;
     let (right, rest) = part(alloc, levels, vars, rest)?;
@@ -123,7 +123,7 @@ pub fn terms(
     count: u32,
     bytes: &[u8],
 ) -> Result<(List<Term>, &[u8]), ReadFault>
-    ensures { Gives (λ x. (x.0, x.1.now)) result (items_at (term_at levels vars) count bytes.now) }
+    ensures { ReadsAs result (items_at (term_at levels vars) count bytes.now) }
 {
     let mut terms = List::new(alloc);
     let mut rest = bytes;

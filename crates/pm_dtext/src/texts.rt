@@ -1,6 +1,7 @@
 //! The calls that read one line each.
 
 ghost use Rattle.std.specs.Prelude.{◌≡◌, ◌+◌, ◌^◌, ◌<◌, ◌≤◌, length, slice_index, IfOk};
+ghost use Rattle.pm_logic.specs.declared.limits.TheConstants.{MAX_TABLE};
 ghost use Rattle.pm_dtext.specs.Ranges.{AritiesFit};
 ghost use Rattle.pm_dtext.specs.Texts.{Answers, offset, placed_fault, whole, only_rest, arities_of, names_of};
 ghost use Rattle.pm_dtext.specs.Reading.{header_at, arities_at, pred_at, line_at};
@@ -96,7 +97,7 @@ pub fn read_line(
     preds: &Preds,
 ) -> Result<Line, LineFault>
     requires place { base + length text.now < 2 ^ 64 }
-    requires table { length preds.now.list ≤ 1000000 }
+    requires table { length preds.now.list ≤ MAX_TABLE }
     ensures { Answers result (whole base text.now (line_at (arities_of preds.now.list) number text.now)) }
 {
     match line(alloc, Arities::Table(preds.list.as_slice()), number, text) {

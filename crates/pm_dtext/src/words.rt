@@ -4,7 +4,7 @@ ghost use Rattle.std.specs.Prelude.{◌≡◌, ◌↔◌, ◌≤◌, IsTrue, IfS
 ghost use Rattle.std.specs.Fmt.{decimal};
 ghost use Rattle.std.specs.List.{prefix_len};
 ghost use Rattle.std.specs.Str.{bytes_eq};
-ghost use Rattle.pm_dtext.specs.Texts.{Reads};
+ghost use Rattle.pm_dtext.specs.Texts.{ReadsExactly, LeavesExactly, ReadsWord};
 ghost use Rattle.pm_dtext.specs.Reading.{is_word_byte, word, after, expect_at, skip_at, says_at, part_at, HasPlainFront, number_of, up_to, units_of, index_of, literal_of, name_of};
 
 use crate::fault::Fault;
@@ -39,7 +39,7 @@ pub fn is_text(word: &[u8], text: &str) -> bool
 /// What follows a separator.
 #[tactic(auto, unfolding(crate::specs::Reading::skip_at))]
 pub fn skip(separator: u8, bytes: &[u8]) -> Result<&[u8], Fault>
-    ensures { Reads (λ x. x.now) result (skip_at separator bytes.now) }
+    ensures { LeavesExactly result (skip_at separator bytes.now) }
 {
     match bytes {
         [] => Err(Fault::Syntax(0)),
@@ -56,7 +56,7 @@ pub fn skip(separator: u8, bytes: &[u8]) -> Result<&[u8], Fault>
 /// What follows a word that has to be this text.
 #[tactic(auto, unfolding(crate::specs::Reading::expect_at))]
 pub fn expect<'a>(text: &str, bytes: &'a [u8]) -> Result<&'a [u8], Fault>
-    ensures { Reads (λ x. x.now) result (expect_at text.now bytes.now) }
+    ensures { LeavesExactly result (expect_at text.now bytes.now) }
 {
     let (word, rest) = word_of(bytes);
     if is_text(word, text) {
@@ -147,7 +147,7 @@ pub fn literal_of(word: &[u8]) -> Option<i64>
 /// The number at the front, and what follows it.
 #[tactic(auto, unfolding(crate::specs::Reading::says_at))]
 pub fn number(bytes: &[u8]) -> Result<(u64, &[u8]), Fault>
-    ensures { Reads (λ x. (x.0, x.1.now)) result (says_at number_of bytes.now) }
+    ensures { ReadsExactly result (says_at number_of bytes.now) }
 {
     let (word, rest) = word_of(bytes);
     match number_of(word) {
@@ -159,7 +159,7 @@ pub fn number(bytes: &[u8]) -> Result<(u64, &[u8]), Fault>
 /// The number at the front, which may be at most this one, and what follows it.
 #[tactic(auto, unfolding(crate::specs::Reading::says_at))]
 pub fn up_to(most: u32, bytes: &[u8]) -> Result<(u32, &[u8]), Fault>
-    ensures reads { Reads (λ x. (x.0, x.1.now)) result (says_at (up_to most) bytes.now) }
+    ensures reads { ReadsExactly result (says_at (up_to most) bytes.now) }
     ensures within { IfOk result (λ x. x.0 ≤ most) }
 {
     let (word, rest) = word_of(bytes);
@@ -172,7 +172,7 @@ pub fn up_to(most: u32, bytes: &[u8]) -> Result<(u32, &[u8]), Fault>
 /// The units at the front, 1 to a whole, and what follows them.
 #[tactic(auto, unfolding(crate::specs::Reading::says_at))]
 fn units(bytes: &[u8]) -> Result<(u32, &[u8]), Fault>
-    ensures { Reads (λ x. (x.0, x.1.now)) result (says_at units_of bytes.now) }
+    ensures { ReadsExactly result (says_at units_of bytes.now) }
 {
     let (word, rest) = word_of(bytes);
     match units_of(word) {
@@ -184,7 +184,7 @@ fn units(bytes: &[u8]) -> Result<(u32, &[u8]), Fault>
 /// Units behind a blank.
 #[tactic(auto, unfolding(crate::specs::Reading::part_at))]
 pub fn share(bytes: &[u8]) -> Result<(u32, &[u8]), Fault>
-    ensures { Reads (λ x. (x.0, x.1.now)) result (part_at (says_at units_of) bytes.now) }
+    ensures { ReadsExactly result (part_at (says_at units_of) bytes.now) }
 {
     units(skip(b' ', bytes)?)
 }
@@ -192,7 +192,7 @@ pub fn share(bytes: &[u8]) -> Result<(u32, &[u8]), Fault>
 /// The literal at the front, and what follows it.
 #[tactic(auto, unfolding(crate::specs::Reading::says_at))]
 fn literal(bytes: &[u8]) -> Result<(i64, &[u8]), Fault>
-    ensures { Reads (λ x. (x.0, x.1.now)) result (says_at literal_of bytes.now) }
+    ensures { ReadsExactly result (says_at literal_of bytes.now) }
 {
     let (word, rest) = word_of(bytes);
     match literal_of(word) {
@@ -204,7 +204,7 @@ fn literal(bytes: &[u8]) -> Result<(i64, &[u8]), Fault>
 /// A literal behind a blank.
 #[tactic(auto, unfolding(crate::specs::Reading::part_at))]
 pub fn factor(bytes: &[u8]) -> Result<(i64, &[u8]), Fault>
-    ensures { Reads (λ x. (x.0, x.1.now)) result (part_at (says_at literal_of) bytes.now) }
+    ensures { ReadsExactly result (part_at (says_at literal_of) bytes.now) }
 {
     literal(skip(b' ', bytes)?)
 }
@@ -223,7 +223,7 @@ fn is_number(word: &[u8], n: u64) -> bool
 /// What follows a word that has to be this number.
 #[tactic(auto, unfolding(crate::specs::Reading::expect_at))]
 pub fn expect_number(n: u64, bytes: &[u8]) -> Result<&[u8], Fault>
-    ensures { Reads (λ x. x.now) result (expect_at (decimal n) bytes.now) }
+    ensures { LeavesExactly result (expect_at (decimal n) bytes.now) }
 {
     let (word, rest) = word_of(bytes);
     if is_number(word, n) {
@@ -236,7 +236,7 @@ pub fn expect_number(n: u64, bytes: &[u8]) -> Result<&[u8], Fault>
 /// The name at the front, and what follows it.
 #[tactic(auto, unfolding(crate::specs::Reading::says_at, crate::specs::Reading::name_of))]
 pub fn name(bytes: &[u8]) -> Result<(&[u8], &[u8]), Fault>
-    ensures { Reads (λ x. (x.0.now, x.1.now)) result (says_at name_of bytes.now) }
+    ensures { ReadsWord result (says_at name_of bytes.now) }
 {
     let (word, rest) = word_of(bytes);
     if is_name(word) {

@@ -13,11 +13,11 @@ first_of_two None o = o
 -- the hypothesis of this name, by its context and its place from 0
 abbrev pub hyp_of : Goal → List ℕ → Option Found
 hyp_of goal name =
-    first_of_two (option_map found.Int (position (λ h. bytes_eq h.name name) goal.ints))
-    (option_map found.Spat (position (λ h. bytes_eq h.name name) goal.spats))
+    first_of_two (option_map found.Int (position (λ h. bytes_eq name h.name) goal.ints))
+    (option_map found.Spat (position (λ h. bytes_eq name h.name) goal.spats))
 
 -- what the name names: a variable by its index, the newest being 0, else a fact or hypothesis by its place
 abbrev pub find_of : Goal → List ℕ → Option Found
 find_of goal name =
-    first_of_two (option_map (λ i. found.Var (length goal.vars - 1 - i)) (position (λ n. bytes_eq n name) goal.vars))
-    (first_of_two (option_map found.Pure (position (λ f. bytes_eq f.name name) goal.pures)) (hyp_of goal name))
+    first_of_two (option_map (λ i. found.Var (length goal.vars - 1 - i)) (position (λ n. bytes_eq name n) goal.vars))
+    (first_of_two (option_map found.Pure (position (λ f. bytes_eq name f.name) goal.pures)) (hyp_of goal name))

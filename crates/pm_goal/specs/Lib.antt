@@ -1,2 +1,4 @@
 pub mod Left
 pub mod Find
+pub mod Refusals
+pub mod Fresh

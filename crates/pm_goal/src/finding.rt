@@ -4,7 +4,7 @@ ghost use Rattle.std.specs.Prelude.{◌≡◌, ◌<◌, ◌^◌, length, positio
 ghost use Rattle.std.specs.Str.{bytes_eq};
 ghost use Rattle.pm_goal.specs.Find.{find_of, hyp_of};
 
-use crate::goal::{Fact, Goal, Hyp};
+use crate::goal::Goal;
 use pm_logic::Name;
 
 /// What a name of a goal names.
@@ -21,24 +21,10 @@ pub enum Found {
 }
 
 fn var_place(vars: &[Name], name: &Name) -> Option<usize>
-    ensures place { result ≡ position (λ n. bytes_eq n name.now) vars.now }
+    ensures place { result ≡ position (λ n. bytes_eq name.now n) vars.now }
     ensures within { IfSome result (λ i. i < length vars.now) }
 {
-    vars.iter().position(|n| n.bytes() == name.bytes())
-}
-
-fn fact_place(facts: &[Fact], name: &Name) -> Option<usize>
-    ensures place { result ≡ position (λ f. bytes_eq f.name name.now) facts.now }
-    ensures within { IfSome result (λ i. i < length facts.now) }
-{
-    facts.iter().position(|f| f.name.bytes() == name.bytes())
-}
-
-fn hyp_place(hyps: &[Hyp], name: &Name) -> Option<usize>
-    ensures place { result ≡ position (λ h. bytes_eq h.name name.now) hyps.now }
-    ensures within { IfSome result (λ i. i < length hyps.now) }
-{
-    hyps.iter().position(|h| h.name.bytes() == name.bytes())
+    vars.iter().position(|n| name.bytes() == n.bytes())
 }
 
 fn found_hyp(goal: &Goal, name: &Name) -> Option<Found>
@@ -46,10 +32,10 @@ fn found_hyp(goal: &Goal, name: &Name) -> Option<Found>
     requires spats { length goal.now.spats < 2 ^ 32 }
     ensures { result ≡ hyp_of goal.now name.now }
 {
-    if let Some(i) = hyp_place(goal.ints.as_slice(), name) {
+    if let Some(i) = goal.ints.place(name) {
         return Some(Found::Int(i as u32));
     }
-    match hyp_place(goal.spats.as_slice(), name) {
+    match goal.spats.place(name) {
         Some(i) => Some(Found::Spat(i as u32)),
         None => None,
     }
@@ -67,7 +53,7 @@ pub fn find(goal: &Goal, name: &Name) -> Option<Found>
     if let Some(i) = var_place(vars, name) {
         return Some(Found::Var((vars.len() - 1 - i) as u32));
     }
-    if let Some(i) = fact_place(goal.pures.as_slice(), name) {
+    if let Some(i) = goal.pures.place(name) {
         return Some(Found::Pure(i as u32));
     }
     found_hyp(goal, name)

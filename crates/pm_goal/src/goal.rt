@@ -1,5 +1,8 @@
 //! Goals.
 
+ghost use Rattle.std.specs.Prelude.{◌≡◌};
+
+use crate::context::{Ctx, Facts};
 use pm_logic::{Formula, List, Name, Pure};
 
 /// A hypothesis.
@@ -18,12 +21,33 @@ pub struct Fact {
 pub struct Goal {
     /// The variables, oldest first; the newest is index 0.
     pub vars: List<Name>,
-    pub pures: List<Fact>,
+    /// The pure facts.
+    pub pures: Facts,
     /// The hypotheses that may be used any number of times.
-    pub ints: List<Hyp>,
+    pub ints: Ctx,
     /// The hypotheses that are used once.
-    pub spats: List<Hyp>,
+    pub spats: Ctx,
     pub concl: Formula,
+}
+
+impl Hyp {
+    /// The name and the formula, taken apart.
+    pub fn into_parts(self) -> (Name, Formula)
+        ensures { result ≡ (self.name, self.formula) }
+    {
+        let Hyp { name, formula } = self;
+        (name, formula)
+    }
+}
+
+impl Fact {
+    /// The name and the pure formula, taken apart.
+    pub fn into_parts(self) -> (Name, Pure)
+        ensures { result ≡ (self.name, self.pure) }
+    {
+        let Fact { name, pure } = self;
+        (name, pure)
+    }
 }
 
 // Written out, since a contract then sees one call where a value is let go, and not the layout of the goal.

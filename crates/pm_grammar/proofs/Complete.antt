@@ -1,6 +1,7 @@
 -- Whole texts that the grammar derives are read, and no text is derived for two trees.
 use Rattle.std.proofs.Common.{◌≡◌, ◌⊎◌, inl, inr, ℕ, suc, ◌<◌, ◌≤◌, Bool, true, false, cond, leb, le-leb, List, [], ◌++◌, Result, Ok, Err, refl, sym, ap, subst, ◌∙◌, append-nil, arith}
 use Rattle.std.proofs.lemmas.Bool.Decides.{Decides-eqb}
+use Rattle.pm_logic.specs.declared.limits.TheConstants.{MAX_LEVELS}
 use Rattle.pm_logic.specs.declared.formula.Term.{Term}
 use Rattle.pm_logic.specs.declared.formula.Pure.{Pure}
 use Rattle.pm_logic.specs.declared.formula.Formula.{Formula}
@@ -36,13 +37,13 @@ module _ {A : Type 0} (depth : A → ℕ) (end at : ℕ) (read : Read A) (a : A)
   unfolding all_of
   all_read found = rw (found, (Decides-eqb end end).1 refl) refl
 
-  whole_read : read ≡ Ok (a, []) → depth a ≤ 200 → whole ≡ Ok a
+  whole_read : read ≡ Ok (a, []) → depth a ≤ MAX_LEVELS → whole ≡ Ok a
   unfolding shallow
-  whole_read found le = rw (all_read found, le-leb (depth a) 200 le) refl
+  whole_read found le = rw (all_read found, le-leb (depth a) MAX_LEVELS le) refl
 
   whole_again : {P : Type 0} → Again P read (a, []) → (whole ≡ Ok a) ⊎ IsDeep whole
   unfolding shallow all_of
-  whole_again (inl found) = rw (all_read found) (go (leb (depth a) 200))
+  whole_again (inl found) = rw (all_read found) (go (leb (depth a) MAX_LEVELS))
     where
       go : (b : Bool) → (cond b (done a) (Err (Deep at)) ≡ Ok a) ⊎ IsDeep (cond b (done a) (Err (Deep at)))
       go true = inl refl
@@ -105,17 +106,17 @@ module _ (stop room : ℕ) where
 pub complete : ReadingIsComplete
 unfolding term_of pure_of formula_of
 complete = record {
-  terms = λ names end ts a is. whole_again term_depth end (offset end ts) (sum_in end names 200 ts) a (term_again end 200 names ts a is);
-  pures = λ names end ts a is. whole_again pure_depth end (offset end ts) (pure_in end names 200 Ors ts) a (pure_again end 200 names ts a is);
-  formulas = λ preds names end ts e a is. whole_again depth_of end (offset end ts) (formula_in end preds 200 Wands names ts) a (formula_again end 200 preds names ts e a is);
+  terms = λ names end ts a is. whole_again term_depth end (offset end ts) (sum_in end names MAX_LEVELS ts) a (term_again end MAX_LEVELS names ts a is);
+  pures = λ names end ts a is. whole_again pure_depth end (offset end ts) (pure_in end names MAX_LEVELS Ors ts) a (pure_again end MAX_LEVELS names ts a is);
+  formulas = λ preds names end ts e a is. whole_again depth_of end (offset end ts) (formula_in end preds MAX_LEVELS Wands names ts) a (formula_again end MAX_LEVELS preds names ts e a is);
 }
 
 pub shallow_is_read : ShallowIsRead
 unfolding term_of pure_of formula_of
 shallow_is_read = record {
-  terms = λ names end ts a is few low. whole_read term_depth end (offset end ts) (sum_in end names 200 ts) a (surely 200 (openings (tokens_at ts)) (sum_in end names 200 ts) (a, []) (omega (arith, few)) (term_again end 200 names ts a is)) low;
-  pures = λ names end ts a is few low. whole_read pure_depth end (offset end ts) (pure_in end names 200 Ors ts) a (surely 200 (openings (tokens_at ts)) (pure_in end names 200 Ors ts) (a, []) (omega (arith, few)) (pure_again end 200 names ts a is)) low;
-  formulas = λ preds names end ts e a is few low. whole_read depth_of end (offset end ts) (formula_in end preds 200 Wands names ts) a (surely 200 (openings (tokens_at ts)) (formula_in end preds 200 Wands names ts) (a, []) (omega (arith, few)) (formula_again end 200 preds names ts e a is)) low;
+  terms = λ names end ts a is few low. whole_read term_depth end (offset end ts) (sum_in end names MAX_LEVELS ts) a (surely MAX_LEVELS (openings (tokens_at ts)) (sum_in end names MAX_LEVELS ts) (a, []) (omega (arith, few)) (term_again end MAX_LEVELS names ts a is)) low;
+  pures = λ names end ts a is few low. whole_read pure_depth end (offset end ts) (pure_in end names MAX_LEVELS Ors ts) a (surely MAX_LEVELS (openings (tokens_at ts)) (pure_in end names MAX_LEVELS Ors ts) (a, []) (omega (arith, few)) (pure_again end MAX_LEVELS names ts a is)) low;
+  formulas = λ preds names end ts e a is few low. whole_read depth_of end (offset end ts) (formula_in end preds MAX_LEVELS Wands names ts) a (surely MAX_LEVELS (openings (tokens_at ts)) (formula_in end preds MAX_LEVELS Wands names ts) (a, []) (omega (arith, few)) (formula_again end MAX_LEVELS preds names ts e a is)) low;
 }
 
 -- ---- one tree

@@ -1,6 +1,7 @@
 -- Whole texts that are read are derived by the grammar.
 use Rattle.std.proofs.Common.{◌≡◌, ℕ, ◌&&◌, ◌==◌, leb, List, [], ◌∷◌, ◌++◌, length, Ok, refl, sym, ap, subst, ◌∙◌, append-nil}
 use Rattle.std.proofs.lemmas.Bool.Decides.{Decides-eqb}
+use Rattle.pm_logic.specs.declared.limits.TheConstants.{MAX_LEVELS}
 use Rattle.pm_logic.specs.declared.formula.Term.{Term}
 use Rattle.pm_logic.specs.declared.formula.Pure.{Pure}
 use Rattle.pm_logic.specs.declared.formula.Formula.{Formula}
@@ -32,7 +33,7 @@ module _ {A : Type 0} (depth : A → ℕ) (end stop at : ℕ) (read : Read A) (a
   unfolding shallow all_of
   whole_ok e =
       let b = bind_ok (all_of end stop read) _ a e in
-      let g = guard_ok (leb (depth b.0) 200) b.0 a _ b.2 in
+      let g = guard_ok (leb (depth b.0) MAX_LEVELS) b.0 a _ b.2 in
       let c = bind_ok read _ b.0 b.1 in
       let h = guard_ok (length c.0.1 == 0 && (stop == end)) c.0.0 b.0 _ c.2 in
       let none = (Decides-eqb (length c.0.1) 0).0 (and_ok (length c.0.1 == 0) (stop == end) h.0).0 in
@@ -45,22 +46,22 @@ all_tokens ts ys rest e none = sym (e ∙ ap (λ us. ys ++ us) none ∙ append-n
 term_sound : (names : Names) (end stop : ℕ) (ts : List Place) (a : Term) → term_of names end stop ts ≡ Ok a → IsTerm names sum (tokens_at ts) a
 unfolding term_of
 term_sound names end stop ts a e =
-    let w = whole_ok term_depth end stop (offset stop ts) (sum_in stop names 200 ts) a e in
-    let d = sum_derived stop names 200 ts (a, w.0) w.1 in
+    let w = whole_ok term_depth end stop (offset stop ts) (sum_in stop names MAX_LEVELS ts) a e in
+    let d = sum_derived stop names MAX_LEVELS ts (a, w.0) w.1 in
     subst (λ (us : List Token). IsTerm names sum us a) (all_tokens (tokens_at ts) d.0 (tokens_at w.0) d.1 w.2) d.2
 
 pure_sound : (names : Names) (end stop : ℕ) (ts : List Place) (a : Pure) → pure_of names end stop ts ≡ Ok a → IsPure names Ors (tokens_at ts) a
 unfolding pure_of
 pure_sound names end stop ts a e =
-    let w = whole_ok pure_depth end stop (offset stop ts) (pure_in stop names 200 Ors ts) a e in
-    let d = pure_derived stop names 200 Ors ts (a, w.0) w.1 in
+    let w = whole_ok pure_depth end stop (offset stop ts) (pure_in stop names MAX_LEVELS Ors ts) a e in
+    let d = pure_derived stop names MAX_LEVELS Ors ts (a, w.0) w.1 in
     subst (λ (us : List Token). IsPure names Ors us a) (all_tokens (tokens_at ts) d.0 (tokens_at w.0) d.1 w.2) d.2
 
 formula_sound : (preds : Callables) (names : Names) (end stop : ℕ) (ts : List Place) (a : Formula) → formula_of preds names end stop ts ≡ Ok a → (e : End) × IsFormula preds names Wands e (tokens_at ts) a
 unfolding formula_of
 formula_sound preds names end stop ts a e =
-    let w = whole_ok depth_of end stop (offset stop ts) (formula_in stop preds 200 Wands names ts) a e in
-    let d = formula_derived stop preds 200 Wands names ts (a, w.0) w.1 in
+    let w = whole_ok depth_of end stop (offset stop ts) (formula_in stop preds MAX_LEVELS Wands names ts) a e in
+    let d = formula_derived stop preds MAX_LEVELS Wands names ts (a, w.0) w.1 in
     (d.0, subst (λ (us : List Token). IsFormula preds names Wands d.0 us a) (all_tokens (tokens_at ts) d.1 (tokens_at w.0) d.2 w.2) d.3)
 
 pub sound : ReadingIsSound

@@ -1,5 +1,6 @@
 -- What is read is what the grammar derives, unless it is too deep.
-use Rattle.std.specs.Prelude.{◌≡◌, ◌⊎◌, ℕ, ◌≤◌, List, [], ◌∷◌, Result, Ok, Err}
+use Rattle.std.specs.Prelude.{◌≡◌, ◌⊎◌, ℕ, ◌≤◌, ◌<◌, List, [], ◌∷◌, Result, Ok, Err}
+use Rattle.pm_logic.specs.declared.limits.TheConstants.{MAX_LEVELS}
 use Rattle.pm_logic.specs.declared.formula.Term.{Term}
 use Rattle.pm_logic.specs.declared.formula.Pure.{Pure}
 use Rattle.pm_logic.specs.declared.formula.Formula.{Formula}
@@ -38,12 +39,12 @@ pub record ReadingIsComplete : Type 0 where
   pub pures : (names : Names) (end : ℕ) (ts : List Place) (p : Pure) → IsPure names Ors (tokens_at ts) p → (pure_of names end end ts ≡ Ok p) ⊎ IsDeep (pure_of names end end ts)
   pub formulas : (preds : Callables) (names : Names) (end : ℕ) (ts : List Place) (e : End) (f : Formula) → IsFormula preds names Wands e (tokens_at ts) f → (formula_of preds names end end ts ≡ Ok f) ⊎ IsDeep (formula_of preds names end end ts)
 
--- ---- It isn't too deep where it can open no more than 199 constructs and its tree has no more than 200 levels.
+-- ---- It isn't too deep where it can open fewer than MAX_LEVELS constructs and its tree has no more than MAX_LEVELS levels.
 
 pub record ShallowIsRead : Type 0 where
-  pub terms : (names : Names) (end : ℕ) (ts : List Place) (a : Term) → IsTerm names sum (tokens_at ts) a → openings (tokens_at ts) ≤ 199 → term_depth a ≤ 200 → term_of names end end ts ≡ Ok a
-  pub pures : (names : Names) (end : ℕ) (ts : List Place) (p : Pure) → IsPure names Ors (tokens_at ts) p → openings (tokens_at ts) ≤ 199 → pure_depth p ≤ 200 → pure_of names end end ts ≡ Ok p
-  pub formulas : (preds : Callables) (names : Names) (end : ℕ) (ts : List Place) (e : End) (f : Formula) → IsFormula preds names Wands e (tokens_at ts) f → openings (tokens_at ts) ≤ 199 → depth_of f ≤ 200 → formula_of preds names end end ts ≡ Ok f
+  pub terms : (names : Names) (end : ℕ) (ts : List Place) (a : Term) → IsTerm names sum (tokens_at ts) a → openings (tokens_at ts) < MAX_LEVELS → term_depth a ≤ MAX_LEVELS → term_of names end end ts ≡ Ok a
+  pub pures : (names : Names) (end : ℕ) (ts : List Place) (p : Pure) → IsPure names Ors (tokens_at ts) p → openings (tokens_at ts) < MAX_LEVELS → pure_depth p ≤ MAX_LEVELS → pure_of names end end ts ≡ Ok p
+  pub formulas : (preds : Callables) (names : Names) (end : ℕ) (ts : List Place) (e : End) (f : Formula) → IsFormula preds names Wands e (tokens_at ts) f → openings (tokens_at ts) < MAX_LEVELS → depth_of f ≤ MAX_LEVELS → formula_of preds names end end ts ≡ Ok f
 
 -- ---- Tokens are written for one tree alone.
 

@@ -15,7 +15,7 @@ pub fn derived_texts_are_read()
     ensures { ReadingIsComplete }
 {}
 
-/// What the grammar derives is read, where its tokens open no more than 199 constructs and its tree has no more than 200 levels.
+/// What the grammar derives is read, where its tokens open fewer than `MAX_LEVELS` constructs and its tree has no more than `MAX_LEVELS` levels.
 #[tactic(auto, using(crate::proofs::Complete::shallow_is_read))]
 pub fn shallow_texts_are_read()
     ensures { ShallowIsRead }

@@ -1,11 +1,19 @@
 -- What a call that meets the outside says of its faults.
 use Rattle.std.specs.Prelude.{ℕ, ◌+◌, ◌-◌, ◌^◌, ◌≤◌, min, Result, OnErr, IsErrOf}
+use Rattle.std.proofs.Math.Nat.{min-le_right}
 use Rattle.pm_io.specs.declared.sink.SendFault.{SendFault}
 use Rattle.pm_io.specs.declared.sink.SendFault.TheVariants.{Write}
 
 -- a count goes up by one, and stands still at the last `u64`
 abbrev pub one_more : ℕ → ℕ
 one_more count = min (count + 1) (2 ^ 64 - 1)
+
+-- a count as a `u64` holds it
+abbrev pub counted : ℕ → ℕ
+counted count = min count (2 ^ 64 - 1)
+
+pub counted_within : (count : ℕ) → counted count ≤ 2 ^ 64 - 1
+counted_within count = min-le_right count (2 ^ 64 - 1)
 
 -- a count rose, or stands at the last `u64`
 abbrev pub Rose : ℕ → ℕ → Type 0

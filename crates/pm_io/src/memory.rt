@@ -3,7 +3,7 @@
 ghost use Rattle.std.specs.Prelude.{◌≡◌, ◌++◌, ◌<◌, ◌≤◌, ◌↔◌, Some, false, IsTrue, IsOk, IsErr, IfOk, OnOk, OnErr, IsErrOf, min, take, length};
 ghost use Rattle.std.specs.Io.{ReadsAtMost};
 ghost use Rattle.std.specs.Io.KnownBytes.{ReadConsumes, WriteAppends};
-ghost use Rattle.pm_io.specs.Causes.{one_more, HasCause, SendCause};
+ghost use Rattle.pm_io.specs.Causes.{one_more, counted, counted_within, HasCause, SendCause};
 ghost use Rattle.pm_io.specs.Taken.{TakesSome};
 ghost use Rattle.pm_io.specs.Devices.{IsListed, new_input, new_output};
 
@@ -141,12 +141,14 @@ impl MemSource {
 impl Source for MemSource {
     ghost left = { λ it. Some it.left };
 
-    ghost faults = { λ it. it.faults };
+    ghost faults = { λ it. counted it.faults };
+
+    ghost counts_fit = { λ it. counted_within it.faults };
 
     fn read(&mut self, buf: &mut [u8]) -> Result<usize, Failed>
         ensures bound { ReadsAtMost result buf.new }
         ensures bytes { ReadConsumes (Some self.old.left) (Some self.new.left) result buf.new }
-        ensures cause { HasCause self.old.faults self.new.faults result }
+        ensures cause { HasCause (counted self.old.faults) (counted self.new.faults) result }
         ensures fails { IsErr result ↔ IsListed self.old.failing (one_more self.old.calls) }
         ensures raised { OnErr result (self.new.faults ≡ one_more self.old.faults) }
         ensures steady { OnOk result (self.new.faults ≡ self.old.faults) }
@@ -191,6 +193,8 @@ impl Source for SureSource {
     ghost left = { λ it. Some it };
 
     ghost faults = { λ _. 0 };
+
+    ghost counts_fit = { λ _. counted_within 0 };
 
     fn read(&mut self, buf: &mut [u8]) -> Result<usize, Failed>
         ensures bound { ReadsAtMost result buf.new }
@@ -256,12 +260,14 @@ impl MemSink {
 impl Sink for MemSink {
     ghost written = { λ it. Some it.written };
 
-    ghost faults = { λ it. it.faults };
+    ghost faults = { λ it. counted it.faults };
+
+    ghost counts_fit = { λ it. counted_within it.faults };
 
     fn write(&mut self, piece: &[u8]) -> Result<usize, SendFault>
         ensures bound { TakesSome result piece.now }
         ensures bytes { WriteAppends (Some self.old.written) (Some self.new.written) result piece.now }
-        ensures cause { SendCause self.old.faults self.new.faults result }
+        ensures cause { SendCause (counted self.old.faults) (counted self.new.faults) result }
         ensures fails { IsErrOf result SendFault.Write ↔ IsListed self.old.failing (one_more self.old.calls) }
         ensures raised { IsErrOf result SendFault.Write → self.new.faults ≡ one_more self.old.faults }
         ensures steady { ¬ IsErrOf result SendFault.Write → self.new.faults ≡ self.old.faults }

@@ -1,6 +1,6 @@
 //! Where bytes go.
 
-ghost use Rattle.std.specs.Prelude.{◌≡◌, ◌≤◌, ℕ, List, IfOk, OnOk, OnErr, IsErrOf};
+ghost use Rattle.std.specs.Prelude.{◌≡◌, ◌≤◌, ◌^◌, ◌-◌, ℕ, List, IfOk, OnOk, OnErr, IsErrOf};
 ghost use Rattle.std.specs.declared.option.Option.{Option};
 ghost use Rattle.std.specs.Io.KnownBytes.{WriteAppends, Appends};
 ghost use Rattle.pm_io.specs.Causes.{Rose};
@@ -32,6 +32,9 @@ pub trait Sink {
         ensures bound { TakesSome result piece.now }
         ensures bytes { WriteAppends (written self.old) (written self.new) result piece.now }
         ensures cause { SendCause (faults self.old) (faults self.new) result };
+
+    /// The count is that of a `u64`, in every sink.
+    ghost counts_fit: { (it : Self) → faults it ≤ 2 ^ 64 - 1 };
 }
 
 /// Appends the whole piece, by as many writes as it takes. The first error ends it, and a front

@@ -3,7 +3,7 @@
 ghost use Rattle.std.specs.Prelude.{◌≡◌, ◌≢◌, ◌≤◌, [], None, IfSome, length, OnOk, OnErr, IfErr};
 ghost use Rattle.std.specs.Io.{ReadsAtMost};
 ghost use Rattle.std.specs.Io.KnownBytes.{ReadConsumes, WriteAppends};
-ghost use Rattle.pm_io.specs.Causes.{one_more, HasCause, SendCause};
+ghost use Rattle.pm_io.specs.Causes.{one_more, counted, counted_within, HasCause, SendCause};
 ghost use Rattle.pm_io.specs.Taken.{TakesSome};
 
 use crate::sink::{SendFault, Sink};
@@ -38,12 +38,14 @@ impl<R: Read> StdSource<R> {
 impl<R: Read> Source for StdSource<R> {
     ghost left = { λ _. None };
 
-    ghost faults = { λ it. it };
+    ghost faults = { λ it. counted it };
+
+    ghost counts_fit = { λ it. counted_within it };
 
     fn read(&mut self, buf: &mut [u8]) -> Result<usize, Failed>
         ensures bound { ReadsAtMost result buf.new }
         ensures bytes { ReadConsumes None None result buf.new }
-        ensures cause { HasCause self.old self.new result }
+        ensures cause { HasCause (counted self.old) (counted self.new) result }
         ensures steady { OnOk result (self.new ≡ self.old) }
         ensures raised { OnErr result (self.new ≡ one_more self.old) }
     {
@@ -84,7 +86,9 @@ impl<W: Write> StdSink<W> {
 impl<W: Write> Sink for StdSink<W> {
     ghost written = { λ _. None };
 
-    ghost faults = { λ it. it };
+    ghost faults = { λ it. counted it };
+
+    ghost counts_fit = { λ it. counted_within it };
 
     /// Writes and flushes, so that the writer holds back nothing that is answered as written.
     /// Every error is `Write`, also where nothing is taken of a piece that has a byte. Where the
@@ -92,7 +96,7 @@ impl<W: Write> Sink for StdSink<W> {
     fn write(&mut self, piece: &[u8]) -> Result<usize, SendFault>
         ensures bound { TakesSome result piece.now }
         ensures bytes { WriteAppends None None result piece.now }
-        ensures cause { SendCause self.old self.new result }
+        ensures cause { SendCause (counted self.old) (counted self.new) result }
         ensures steady { OnOk result (self.new ≡ self.old) }
         ensures raised { OnErr result (self.new ≡ one_more self.old) }
         ensures sure { IfErr result (λ fault. fault ≡ SendFault.Write) }

@@ -19,3 +19,4 @@ pub mod Agrees
 pub mod Substitutions
 pub mod Small
 pub mod Views
+pub mod Words64

@@ -11,3 +11,4 @@ pub mod Abstraction
 pub mod Kept
 pub mod Nodes
 pub mod Walks
+pub mod Integers

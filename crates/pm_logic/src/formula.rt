@@ -1,4 +1,10 @@
 //! The logic's trees: terms, pure formulas, formulas and predicates.
+//!
+//! To add a formula: a variant here, its builder in building.rt, and a row in each of specs/Trees, Scope, Integers, Guard,
+//! Classes, Size, Substitution and Changes, with the lemmas beside them in proofs/ and an arm of each walk. Then upwards: a
+//! row of Forcing and Laws in pm_model, of Spelling, Ranges and Reading in pm_dtext, of what reads and prints formulas
+//! (pm_text, pm_print, pm_grammar), and rules about it (pm_rules, pm_sound). `rt check` in each crate's folder, lowest first,
+//! then `rt ci`.
 
 use crate::list::List;
 use crate::name::Name;

@@ -10,6 +10,8 @@ mod equality;
 mod filling;
 mod formula;
 mod guarding;
+mod integers;
+mod limits;
 mod list;
 mod name;
 mod node;
@@ -28,6 +30,11 @@ pub use copying::{copy, copy_pure, copy_term};
 pub use equality::{same, same_pure, same_term};
 pub use formula::{BOUND, Formula, Pred, Preds, Pure, Term, UNIT};
 pub use guarding::guarded;
+pub use integers::{formula_is_i64, pure_is_i64, term_is_i64};
+pub use limits::{
+    MAX_HYPOTHESES, MAX_LEMMAS, MAX_LEVELS, MAX_LINE_LEVELS, MAX_LINE_TERMS, MAX_LINE_VARIABLES,
+    MAX_NAMES, MAX_NODES, MAX_PREDICATES, MAX_SCRIPT, MAX_SENTENCE, MAX_TABLE, MAX_VARIABLES,
+};
 pub use list::{Bytes, List, Memory};
 pub use name::{Name, copy_name};
 pub use scoping::scoped;

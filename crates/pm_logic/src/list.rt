@@ -1,7 +1,7 @@
 //! A growing list that contracts see as its items, and want of memory.
 
-ghost use Rattle.std.specs.Prelude.{◌≡◌, ◌==◌, [], ◌∷◌, ◌++◌, ◌<◌, length, slice_get, IfOk, OnOk, OnErr, OnSome};
-ghost use Rattle.std.specs.Option.{option_copied};
+ghost use Rattle.std.specs.Prelude.{◌≡◌, ◌==◌, [], ◌∷◌, ◌++◌, ◌<◌, ◌↔◌, length, slice_get, IsSome, IfOk, OnOk, OnErr, OnSome};
+ghost use Rattle.std.specs.Option.{option_copied, option_to_list};
 
 use std::alloc::{AllocError, AllocFailed, Global};
 use std::marker::Model;
@@ -94,6 +94,14 @@ impl<T: Drop> List<T> {
     {
         self.inner.push(item)?;
         Ok(())
+    }
+
+    /// Takes the last item away, and gives it. `None` where there is no item. It takes no memory.
+    pub fn pop(&mut self) -> Option<T>
+        ensures some { IsSome result ↔ (0 < length self.old) }
+        ensures items { self.old ≡ self.new ++ option_to_list result }
+    {
+        self.inner.pop()
     }
 }
 

@@ -7,3 +7,4 @@ pub mod Bounds
 pub mod Values
 pub mod Merge
 pub mod Heaps
+pub mod Persistence

@@ -9,6 +9,7 @@ use Rattle.pm_logic.specs.Trees.{Sep, Wand, And, Or, Imp, All, Ex, Later, Pers, 
 use Rattle.pm_logic.specs.Values.{eval, evals, Holds}
 use Rattle.pm_logic.specs.Scope.{body_of}
 use Rattle.pm_logic.specs.Guard.{CallsBelow}
+use Rattle.pm_logic.specs.Classes.{IsPersistent}
 use Rattle.pm_logic.specs.Substitution.{subst_of}
 use Rattle.pm_model.specs.Resource.{Res, Joins, Extends, core}
 use Rattle.pm_model.specs.Forcing.{HasAtLeast, AtStepBefore, bodies, Forces}
@@ -56,3 +57,7 @@ Bound = (preds : Preds) (x : Formula) (env : List ℤ) (n b c : ℕ) (r : Res) �
 -- After a substitution a formula is forced exactly where it is forced in the values of the terms.
 abbrev pub Substitution : Type 0
 Substitution = (preds : Preds) (x : Formula) (sigma : List Term) (env : List ℤ) (n b : ℕ) (r : Res) → Forces preds env n b r (subst_of x sigma) ↔ Forces preds (evals env sigma) n b r x
+
+-- Where what is persistent by its form is forced, so is its box.
+abbrev pub PersistentIsBoxed : Type 0
+PersistentIsBoxed = (preds : Preds) (x : Formula) (env : List ℤ) (n b : ℕ) (r : Res) → IsPersistent x → Forces preds env n b r x → Forces preds env n b r (Pers x)

@@ -2,7 +2,7 @@
 #![tactic(auto)]
 
 ghost use Rattle.pm_model.specs.Heap.{HeapLaws};
-ghost use Rattle.pm_model.specs.Laws.{BodiesAreForced, Bound, CoreLaws, IsTable, Monotone, Substitution};
+ghost use Rattle.pm_model.specs.Laws.{BodiesAreForced, Bound, CoreLaws, IsTable, Monotone, PersistentIsBoxed, Substitution};
 
 mod heap;
 
@@ -37,6 +37,11 @@ pub fn bound()
 /// After a substitution a formula is forced exactly where it is forced in the values of the terms.
 pub fn substitution()
     ensures { Substitution }
+{}
+
+/// What is persistent by its form entails its own box.
+pub fn persistent_is_boxed()
+    ensures { PersistentIsBoxed }
 {}
 
 /// Heaps are resources. Where heaps are together their resources join, and where they clash no resource is their resources

@@ -5,6 +5,7 @@
 --   spat  ::=  H  |  [ H or $ H … ]  |  [ ]  |  [ - H … ]  |  [ - ]  |  [ # ]  |  [ % ]  |  [ // ]
 --   cert  ::=  n * H  or  - n * H  …  and at most one  n * ⊢
 use Rattle.std.specs.Prelude.{ℕ, zero, suc, ℤ, pos, Bool, true, false, ◌&&◌, ◌==◌, not, if◌then◌else◌, List, [], ◌∷◌, ◌++◌, drop, length, Option, Some, None, is_none, unwrap_or, Ok, Err}
+use Rattle.pm_logic.specs.declared.limits.TheConstants.{MAX_LEVELS}
 use Rattle.pm_tokens.specs.declared.symbol.Symbol.{Symbol}
 use Rattle.pm_tokens.specs.declared.symbol.Symbol.TheVariants as s
 use Rattle.pm_tokens.specs.Tokens.{name, number, symbol, Place, place}
@@ -226,13 +227,13 @@ module _ (stop : ℕ) where
 
   -- `"pat"` or `( x … ) "pat"`
   unfoldable pub bound_pattern : List Place → Read Pat
-  bound_pattern ts = if sees s.Open ts then named_pattern 200 (drop 1 ts) else quoted_pattern 200 ts
+  bound_pattern ts = if sees s.Open ts then named_pattern MAX_LEVELS (drop 1 ts) else quoted_pattern MAX_LEVELS ts
 
   -- `{ sel … }`, or a pattern
   unfoldable pub clear_or_pattern : List Place → Read Pat
   clear_or_pattern ts =
       if sees s.OpenBrace ts then closed_by s.CloseBrace stop (made pat.Clear (some_until s.CloseBrace sel_in (drop 1 ts)))
-      else pattern_in 200 One ts
+      else pattern_in MAX_LEVELS One ts
 
   -- an item of `iIntros`
   unfoldable pub intro_in : List Place → Read Pat

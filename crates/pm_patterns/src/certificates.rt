@@ -2,7 +2,7 @@
 
 ghost use Rattle.std.specs.Prelude.{◌≡◌, ℤ, Some, None, length};
 ghost use Rattle.pm_tokens.specs.Tokens.{places};
-ghost use Rattle.pm_terms.specs.Steps.{Gives};
+ghost use Rattle.pm_terms.specs.Steps.{ReadsAs};
 ghost use Rattle.pm_patterns.specs.PatternReading.{takes_goal, fact_in, entry_in, entries_in, cert_of, cert_in, quoted_cert};
 
 use crate::names::name_in;
@@ -40,7 +40,7 @@ fn fact_in<'a>(
     factor: i64,
     tokens: &'a [Placed<'a>],
 ) -> ReadFound<'a>
-    ensures { Gives (λ x. (x.0, places x.1.now)) result (fact_in stop found factor (places tokens.now)) }
+    ensures { ReadsAs result (fact_in stop found factor (places tokens.now)) }
 {
     let (fact, rest) = name_in(alloc, stop, tokens)?;
     found.facts.push(Item { factor, fact })?;
@@ -50,7 +50,7 @@ fn fact_in<'a>(
 /// A factor with its fact, or with the goal, where that one may still come.
 #[tactic(auto, unfolding(crate::specs::PatternReading::entry_in))]
 fn entry_in<'a>(alloc: Global, stop: usize, found: Found, tokens: &'a [Placed<'a>]) -> ReadFound<'a>
-    ensures { Gives (λ x. (x.0, places x.1.now)) result (entry_in stop found (places tokens.now)) }
+    ensures { ReadsAs result (entry_in stop found (places tokens.now)) }
 {
     let (factor, rest) = literal(stop, tokens)?;
     let rest = expect(Symbol::Asterisk, stop, rest)?;
@@ -76,7 +76,7 @@ fn entries_in<'a>(
     found: Found,
     tokens: &'a [Placed<'a>],
 ) -> ReadFound<'a>
-    ensures { Gives (λ x. (x.0, places x.1.now)) result (entries_in stop most found (places tokens.now)) }
+    ensures { ReadsAs result (entries_in stop most found (places tokens.now)) }
 {
     if most == 0 {
         return Ok((found, tokens));
@@ -114,7 +114,7 @@ fn cert_in<'a>(
     stop: usize,
     tokens: &'a [Placed<'a>],
 ) -> Result<(Cert, &'a [Placed<'a>]), TextFault>
-    ensures { Gives (λ x. (x.0, places x.1.now)) result (cert_in stop (places tokens.now)) }
+    ensures { ReadsAs result (cert_in stop (places tokens.now)) }
 {
     let none = Found {
         goal: None,
@@ -131,7 +131,7 @@ pub fn quoted_cert<'a>(
     stop: usize,
     tokens: &'a [Placed<'a>],
 ) -> Result<(Cert, &'a [Placed<'a>]), TextFault>
-    ensures { Gives (λ x. (x.0, places x.1.now)) result (quoted_cert stop (places tokens.now)) }
+    ensures { ReadsAs result (quoted_cert stop (places tokens.now)) }
 {
     let rest = expect(Symbol::Quote, stop, tokens)?;
     let (cert, rest) = cert_in(alloc, stop, rest)?;

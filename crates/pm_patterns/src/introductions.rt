@@ -2,7 +2,7 @@
 
 ghost use Rattle.std.specs.Prelude.{◌≡◌};
 ghost use Rattle.pm_tokens.specs.Tokens.{places};
-ghost use Rattle.pm_terms.specs.Steps.{Gives};
+ghost use Rattle.pm_terms.specs.Steps.{ReadsAs};
 ghost use Rattle.pm_patterns.specs.PatternReading.{deep_name, behind_name, named_at, named_pattern, bound_pattern, clear_or_pattern, intro_in, quoted_intros, further_intros, next_item};
 
 use crate::extent::Extent;
@@ -11,7 +11,7 @@ use crate::part::{Part, ReadList, closed, quoted_list, some_behind, some_until};
 use crate::pattern::Pat;
 use crate::patterns::{ReadPat, pair, pattern_in, quoted_pattern};
 use crate::signs::item_of;
-use pm_logic::List;
+use pm_logic::{List, MAX_LEVELS};
 use pm_terms::{TextFault, behind, expect, sees};
 use pm_tokens::{Placed, Symbol, Token};
 use std::alloc::Global;
@@ -35,7 +35,7 @@ fn deep_name(stop: usize, tokens: &[Placed<'_>]) -> TextFault
 #[cycle(named)]
 #[tactic(auto, unfolding(crate::specs::PatternReading::behind_name))]
 fn behind_name<'a>(alloc: Global, stop: usize, room: u32, tokens: &'a [Placed<'a>]) -> ReadPat<'a>
-    ensures { Gives (λ x. (x.0, places x.1.now)) result (behind_name stop (named_pattern stop room) room (places tokens.now)) }
+    ensures { ReadsAs result (behind_name stop (named_pattern stop room) room (places tokens.now)) }
 {
     if sees(Symbol::Close, tokens) {
         quoted_pattern(alloc, stop, room, behind(tokens))
@@ -48,7 +48,7 @@ fn behind_name<'a>(alloc: Global, stop: usize, room: u32, tokens: &'a [Placed<'a
 #[cycle(named)]
 #[tactic(auto, unfolding(crate::specs::PatternReading::named_at))]
 fn named_at<'a>(alloc: Global, stop: usize, room: u32, tokens: &'a [Placed<'a>]) -> ReadPat<'a>
-    ensures { Gives (λ x. (x.0, places x.1.now)) result (named_at stop (named_pattern stop room) room (places tokens.now)) }
+    ensures { ReadsAs result (named_at stop (named_pattern stop room) room (places tokens.now)) }
 {
     let (name, rest) = name_in(alloc, stop, tokens)?;
     let (inner, rest) = behind_name(alloc, stop, room, rest)?;
@@ -58,7 +58,7 @@ fn named_at<'a>(alloc: Global, stop: usize, room: u32, tokens: &'a [Placed<'a>])
 /// `x … ) "pat"`, which is `[%x … pat]`, where so many patterns may still stand one in another.
 #[cycle(named)]
 fn named_pattern<'a>(alloc: Global, stop: usize, room: u32, tokens: &'a [Placed<'a>]) -> ReadPat<'a>
-    ensures { Gives (λ x. (x.0, places x.1.now)) result (named_pattern stop room (places tokens.now)) }
+    ensures { ReadsAs result (named_pattern stop room (places tokens.now)) }
 {
     if room <= 1 {
         Err(deep_name(stop, tokens))
@@ -68,15 +68,15 @@ fn named_pattern<'a>(alloc: Global, stop: usize, room: u32, tokens: &'a [Placed<
 }
 
 /// A pattern between quotes, or names in parentheses and one. The faults are `Unexpected`, `Deep` at a pattern or a name that
-/// stands in 200 patterns, and `Memory`.
+/// stands in `MAX_LEVELS` patterns, and `Memory`.
 #[tactic(auto, unfolding(crate::specs::PatternReading::bound_pattern))]
 pub fn bound_pattern<'a>(alloc: Global, stop: usize, tokens: &'a [Placed<'a>]) -> ReadPat<'a>
-    ensures { Gives (λ x. (x.0, places x.1.now)) result (bound_pattern stop (places tokens.now)) }
+    ensures { ReadsAs result (bound_pattern stop (places tokens.now)) }
 {
     if sees(Symbol::Open, tokens) {
-        named_pattern(alloc, stop, 200, behind(tokens))
+        named_pattern(alloc, stop, MAX_LEVELS, behind(tokens))
     } else {
-        quoted_pattern(alloc, stop, 200, tokens)
+        quoted_pattern(alloc, stop, MAX_LEVELS, tokens)
     }
 }
 
@@ -98,10 +98,10 @@ fn next_item(tokens: &[Placed<'_>]) -> Option<Pat>
 /// `{ sel … }`, or a pattern.
 #[tactic(auto, unfolding(crate::specs::PatternReading::clear_or_pattern, pm_terms::specs::Steps::closed_by))]
 fn clear_or_pattern<'a>(alloc: Global, stop: usize, tokens: &'a [Placed<'a>]) -> ReadPat<'a>
-    ensures { Gives (λ x. (x.0, places x.1.now)) result (clear_or_pattern stop (places tokens.now)) }
+    ensures { ReadsAs result (clear_or_pattern stop (places tokens.now)) }
 {
     if !sees(Symbol::OpenBrace, tokens) {
-        return pattern_in(alloc, stop, 200, Extent::One, tokens);
+        return pattern_in(alloc, stop, MAX_LEVELS, Extent::One, tokens);
     }
     let (sels, rest) = some_until(alloc, stop, Symbol::CloseBrace, behind(tokens))?;
     closed(Symbol::CloseBrace, stop, Pat::Clear(sels), rest)
@@ -124,11 +124,11 @@ impl Part for Pat {
     }
 }
 
-/// The items of `iIntros` between quotes, one at least. The faults are `Unexpected`, `Deep` at a pattern that stands in 200
+/// The items of `iIntros` between quotes, one at least. The faults are `Unexpected`, `Deep` at a pattern that stands in `MAX_LEVELS`
 /// others, and `Memory`.
 #[tactic(auto, unfolding(crate::specs::PatternReading::quoted_intros))]
 pub fn quoted_intros<'a>(alloc: Global, stop: usize, tokens: &'a [Placed<'a>]) -> ReadList<'a, Pat>
-    ensures { Gives (λ x. (x.0, places x.1.now)) result (quoted_intros stop (places tokens.now)) }
+    ensures { ReadsAs result (quoted_intros stop (places tokens.now)) }
 {
     quoted_list(alloc, stop, tokens)
 }
@@ -141,7 +141,7 @@ pub fn further_intros<'a>(
     found: List<Pat>,
     tokens: &'a [Placed<'a>],
 ) -> ReadList<'a, Pat>
-    ensures { Gives (λ x. (x.0, places x.1.now)) result (further_intros stop found (places tokens.now)) }
+    ensures { ReadsAs result (further_intros stop found (places tokens.now)) }
 {
     let rest = expect(Symbol::Quote, stop, tokens)?;
     let (items, rest) = some_behind(alloc, stop, Symbol::Quote, found, rest)?;

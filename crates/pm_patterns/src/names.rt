@@ -3,7 +3,7 @@
 
 ghost use Rattle.std.specs.Prelude.{◌≡◌, ◌<◌, length, IfOk};
 ghost use Rattle.pm_tokens.specs.Tokens.{places};
-ghost use Rattle.pm_terms.specs.Steps.{Gives};
+ghost use Rattle.pm_terms.specs.Steps.{ReadsAs};
 ghost use Rattle.pm_patterns.specs.PatternReading.{name_in, quoted_name, quoted_names, grouped_names, sel_in, quoted_sels, next_sel};
 
 use crate::part::{Part, ReadList, closed, quoted_list, some_until};
@@ -21,7 +21,7 @@ pub type ReadName<'a> = Result<(Name, &'a [Placed<'a>]), TextFault>;
 #[tactic(auto, unfolding(crate::specs::PatternReading::name_in))]
 pub fn name_in<'a>(alloc: Global, stop: usize, tokens: &'a [Placed<'a>]) -> ReadName<'a>
     ensures within { IfOk result (λ x. length x.1.now < length tokens.now) }
-    ensures value { Gives (λ x. (x.0, places x.1.now)) result (name_in stop (places tokens.now)) }
+    ensures value { ReadsAs result (name_in stop (places tokens.now)) }
 {
     let [first, rest @ ..] = tokens else {
         return Err(TextFault::Unexpected(stop as u64));
@@ -44,7 +44,7 @@ impl Part for Name {
 /// A name between quotes. The faults are `Unexpected` and `Memory`.
 #[tactic(auto, unfolding(crate::specs::PatternReading::quoted_name, crate::specs::PatternReading::quoted, pm_terms::specs::Steps::closed_by))]
 pub fn quoted_name<'a>(alloc: Global, stop: usize, tokens: &'a [Placed<'a>]) -> ReadName<'a>
-    ensures { Gives (λ x. (x.0, places x.1.now)) result (quoted_name stop (places tokens.now)) }
+    ensures { ReadsAs result (quoted_name stop (places tokens.now)) }
 {
     let rest = expect(Symbol::Quote, stop, tokens)?;
     let (name, rest) = name_in(alloc, stop, rest)?;
@@ -54,7 +54,7 @@ pub fn quoted_name<'a>(alloc: Global, stop: usize, tokens: &'a [Placed<'a>]) -> 
 /// Names between quotes, one at least. The faults are `Unexpected` and `Memory`.
 #[tactic(auto, unfolding(crate::specs::PatternReading::quoted_names))]
 pub fn quoted_names<'a>(alloc: Global, stop: usize, tokens: &'a [Placed<'a>]) -> ReadList<'a, Name>
-    ensures { Gives (λ x. (x.0, places x.1.now)) result (quoted_names stop (places tokens.now)) }
+    ensures { ReadsAs result (quoted_names stop (places tokens.now)) }
 {
     quoted_list(alloc, stop, tokens)
 }
@@ -62,7 +62,7 @@ pub fn quoted_names<'a>(alloc: Global, stop: usize, tokens: &'a [Placed<'a>]) ->
 /// Names between parentheses, one at least. The faults are `Unexpected` and `Memory`.
 #[tactic(auto, unfolding(crate::specs::PatternReading::grouped_names, pm_terms::specs::Steps::closed_by))]
 pub fn grouped_names<'a>(alloc: Global, stop: usize, tokens: &'a [Placed<'a>]) -> ReadList<'a, Name>
-    ensures { Gives (λ x. (x.0, places x.1.now)) result (grouped_names stop (places tokens.now)) }
+    ensures { ReadsAs result (grouped_names stop (places tokens.now)) }
 {
     let rest = expect(Symbol::Open, stop, tokens)?;
     let (names, rest) = some_until(alloc, stop, Symbol::Close, rest)?;
@@ -106,7 +106,7 @@ impl Part for Sel {
 /// Selections between quotes, one at least. The faults are `Unexpected` and `Memory`.
 #[tactic(auto, unfolding(crate::specs::PatternReading::quoted_sels))]
 pub fn quoted_sels<'a>(alloc: Global, stop: usize, tokens: &'a [Placed<'a>]) -> ReadList<'a, Sel>
-    ensures { Gives (λ x. (x.0, places x.1.now)) result (quoted_sels stop (places tokens.now)) }
+    ensures { ReadsAs result (quoted_sels stop (places tokens.now)) }
 {
     quoted_list(alloc, stop, tokens)
 }

@@ -2,7 +2,7 @@
 
 ghost use Rattle.std.specs.Prelude.{◌≡◌, ℕ, List, not, length, Ok};
 ghost use Rattle.pm_tokens.specs.Tokens.{Place, places};
-ghost use Rattle.pm_terms.specs.Steps.{Gives, Read, sees, parts, closed_by};
+ghost use Rattle.pm_terms.specs.Steps.{ReadsAs, Read, sees, parts, closed_by};
 ghost use Rattle.pm_patterns.specs.PatternReading.{behind, once, until, some_until, quoted};
 ghost use Rattle.pm_tokens.specs.declared.symbol.Symbol.TheVariants.{Quote};
 
@@ -22,7 +22,7 @@ pub fn closed<'a, T: Drop>(
     value: T,
     tokens: &'a [Placed<'a>],
 ) -> Result<(T, &'a [Placed<'a>]), TextFault>
-    ensures { Gives (λ x. (x.0, places x.1.now)) result (closed_by symbol stop (Ok (value, places tokens.now))) }
+    ensures { ReadsAs result (closed_by symbol stop (Ok (value, places tokens.now))) }
 {
     let rest = expect(symbol, stop, tokens)?;
     Ok((value, rest))
@@ -38,7 +38,7 @@ pub trait Part: Drop {
         stop: usize,
         tokens: &'a [Placed<'a>],
     ) -> Result<(Self, &'a [Placed<'a>]), TextFault>
-        ensures { Gives (λ x. (x.0, places x.1.now)) result (reads stop (places tokens.now)) };
+        ensures { ReadsAs result (reads stop (places tokens.now)) };
 }
 
 /// Whether anything but this symbol comes.
@@ -55,7 +55,7 @@ fn one_part<'a, T: Part>(
     mut found: List<T>,
     tokens: &'a [Placed<'a>],
 ) -> ReadList<'a, T>
-    ensures { Gives (λ x. (x.0, places x.1.now)) result (behind found (once (T.reads stop) (places tokens.now))) }
+    ensures { ReadsAs result (behind found (once (T.reads stop) (places tokens.now))) }
 {
     let (part, rest) = T::read(alloc, stop, tokens)?;
     found.push(part)?;
@@ -72,7 +72,7 @@ fn more_parts<'a, T: Part>(
     found: List<T>,
     tokens: &'a [Placed<'a>],
 ) -> ReadList<'a, T>
-    ensures { Gives (λ x. (x.0, places x.1.now)) result (behind found (parts most (λ us. not (sees closer us)) (T.reads stop) (places tokens.now))) }
+    ensures { ReadsAs result (behind found (parts most (λ us. not (sees closer us)) (T.reads stop) (places tokens.now))) }
 {
     if most == 0 {
         return Ok((found, tokens));
@@ -97,7 +97,7 @@ pub fn until<'a, T: Part>(
     found: List<T>,
     tokens: &'a [Placed<'a>],
 ) -> ReadList<'a, T>
-    ensures { Gives (λ x. (x.0, places x.1.now)) result (behind found (until closer (T.reads stop) (places tokens.now))) }
+    ensures { ReadsAs result (behind found (until closer (T.reads stop) (places tokens.now))) }
 {
     more_parts(alloc, stop, closer, tokens.len(), found, tokens)
 }
@@ -110,7 +110,7 @@ pub fn some_until<'a, T: Part>(
     closer: Symbol,
     tokens: &'a [Placed<'a>],
 ) -> ReadList<'a, T>
-    ensures { Gives (λ x. (x.0, places x.1.now)) result (some_until closer (T.reads stop) (places tokens.now)) }
+    ensures { ReadsAs result (some_until closer (T.reads stop) (places tokens.now)) }
 {
     let (first, rest) = T::read(alloc, stop, tokens)?;
     let mut found = List::new(alloc);
@@ -127,7 +127,7 @@ pub fn some_behind<'a, T: Part>(
     mut found: List<T>,
     tokens: &'a [Placed<'a>],
 ) -> ReadList<'a, T>
-    ensures { Gives (λ x. (x.0, places x.1.now)) result (behind found (some_until closer (T.reads stop) (places tokens.now))) }
+    ensures { ReadsAs result (behind found (some_until closer (T.reads stop) (places tokens.now))) }
 {
     let (first, rest) = T::read(alloc, stop, tokens)?;
     found.push(first)?;
@@ -141,7 +141,7 @@ pub fn quoted_list<'a, T: Part>(
     stop: usize,
     tokens: &'a [Placed<'a>],
 ) -> ReadList<'a, T>
-    ensures { Gives (λ x. (x.0, places x.1.now)) result (quoted stop (some_until Quote (T.reads stop)) (places tokens.now)) }
+    ensures { ReadsAs result (quoted stop (some_until Quote (T.reads stop)) (places tokens.now)) }
 {
     let rest = expect(Symbol::Quote, stop, tokens)?;
     let (list, rest) = some_until(alloc, stop, Symbol::Quote, rest)?;

@@ -2,7 +2,7 @@
 
 ghost use Rattle.std.specs.Prelude.{◌≡◌, zero, ◌≤◌, length, IfSome, IfOk};
 ghost use Rattle.pm_tokens.specs.Tokens.{places};
-ghost use Rattle.pm_terms.specs.Steps.{Gives, Answers, closed_by, made};
+ghost use Rattle.pm_terms.specs.Steps.{ReadsAs, closed_by, made};
 ghost use Rattle.pm_tokens.specs.declared.symbol.Symbol.TheVariants.{Close, CloseBracket};
 ghost use Rattle.pm_patterns.specs.declared.extent.Extent.TheVariants.{One};
 ghost use Rattle.pm_patterns.specs.declared.pattern.Pat.TheVariants as pat;
@@ -97,7 +97,7 @@ fn either(alloc: Global, first: Pat, second: Pat) -> Result<Pat, AllocError>
 
 /// A name as a pattern.
 fn name_pattern<'a>(alloc: Global, stop: usize, tokens: &'a [Placed<'a>]) -> ReadPat<'a>
-    ensures { Gives (λ x. (x.0, places x.1.now)) result (made pat.Name (name_in stop (places tokens.now))) }
+    ensures { ReadsAs result (made pat.Name (name_in stop (places tokens.now))) }
 {
     let (name, rest) = name_in(alloc, stop, tokens)?;
     Ok((Pat::Name(name), rest))
@@ -106,7 +106,7 @@ fn name_pattern<'a>(alloc: Global, stop: usize, tokens: &'a [Placed<'a>]) -> Rea
 /// Behind `%`.
 #[tactic(auto, unfolding(crate::specs::PatternReading::pure_pattern))]
 fn pure_pattern<'a>(alloc: Global, stop: usize, tokens: &'a [Placed<'a>]) -> ReadPat<'a>
-    ensures { Gives (λ x. (x.0, places x.1.now)) result (pure_pattern stop (places tokens.now)) }
+    ensures { ReadsAs result (pure_pattern stop (places tokens.now)) }
 {
     if sees(Symbol::Question, tokens) {
         return Ok((Pat::PureFresh, behind(tokens)));
@@ -125,7 +125,7 @@ fn second_pair<'a>(
     first: Pat,
     tokens: &'a [Placed<'a>],
 ) -> ReadPat<'a>
-    ensures { Gives (λ x. (x.0, places x.1.now)) result (closed_by CloseBracket stop (made (pair.Pair first) (pattern_in stop room One (places tokens.now)))) }
+    ensures { ReadsAs result (closed_by CloseBracket stop (made (pair.Pair first) (pattern_in stop room One (places tokens.now)))) }
 {
     let (second, rest) = pattern_in(alloc, stop, room, Extent::One, tokens)?;
     let both = pair(alloc, first, second)?;
@@ -142,7 +142,7 @@ fn second_either<'a>(
     first: Pat,
     tokens: &'a [Placed<'a>],
 ) -> ReadPat<'a>
-    ensures { Gives (λ x. (x.0, places x.1.now)) result (closed_by CloseBracket stop (made (pair.Either first) (pattern_in stop room One (places tokens.now)))) }
+    ensures { ReadsAs result (closed_by CloseBracket stop (made (pair.Either first) (pattern_in stop room One (places tokens.now)))) }
 {
     let (second, rest) = pattern_in(alloc, stop, room, Extent::One, tokens)?;
     let both = either(alloc, first, second)?;
@@ -159,7 +159,7 @@ fn bracket_end<'a>(
     first: Pat,
     tokens: &'a [Placed<'a>],
 ) -> ReadPat<'a>
-    ensures { Gives (λ x. (x.0, places x.1.now)) result (bracket_end stop (pattern_in stop room) first (places tokens.now)) }
+    ensures { ReadsAs result (bracket_end stop (pattern_in stop room) first (places tokens.now)) }
 {
     if sees(Symbol::Bar, tokens) {
         second_either(alloc, stop, room, first, behind(tokens))
@@ -172,7 +172,7 @@ fn bracket_end<'a>(
 #[cycle(patterns)]
 #[tactic(auto, unfolding(crate::specs::PatternReading::bracket_at))]
 fn bracket_at<'a>(alloc: Global, stop: usize, room: u32, tokens: &'a [Placed<'a>]) -> ReadPat<'a>
-    ensures { Gives (λ x. (x.0, places x.1.now)) result (bracket_at stop (pattern_in stop room) (places tokens.now)) }
+    ensures { ReadsAs result (bracket_at stop (pattern_in stop room) (places tokens.now)) }
 {
     if sees(Symbol::CloseBracket, tokens) {
         return Ok((Pat::Absurd, behind(tokens)));
@@ -185,7 +185,7 @@ fn bracket_at<'a>(alloc: Global, stop: usize, room: u32, tokens: &'a [Placed<'a>
 #[cycle(patterns)]
 #[tactic(auto, unfolding(crate::specs::PatternReading::ampersand_at))]
 fn ampersand_at<'a>(alloc: Global, stop: usize, room: u32, tokens: &'a [Placed<'a>]) -> ReadPat<'a>
-    ensures { Gives (λ x. (x.0, places x.1.now)) result (ampersand_at stop (pattern_in stop room) (places tokens.now)) }
+    ensures { ReadsAs result (ampersand_at stop (pattern_in stop room) (places tokens.now)) }
 {
     let (first, rest) = pattern_in(alloc, stop, room, Extent::One, tokens)?;
     let rest = expect(Symbol::Ampersand, stop, rest)?;
@@ -197,7 +197,7 @@ fn ampersand_at<'a>(alloc: Global, stop: usize, room: u32, tokens: &'a [Placed<'
 #[cycle(patterns)]
 #[tactic(auto, unfolding(pm_terms::specs::Steps::closed_by))]
 fn group<'a>(alloc: Global, stop: usize, room: u32, tokens: &'a [Placed<'a>]) -> ReadPat<'a>
-    ensures { Gives (λ x. (x.0, places x.1.now)) result (closed_by Close stop (ampersand_at stop (pattern_in stop room) (places tokens.now))) }
+    ensures { ReadsAs result (closed_by Close stop (ampersand_at stop (pattern_in stop room) (places tokens.now))) }
 {
     let (inner, rest) = ampersand_at(alloc, stop, room, tokens)?;
     closed(Symbol::Close, stop, inner, rest)
@@ -211,7 +211,7 @@ fn boxed<'a>(
     room: u32,
     tokens: &'a [Placed<'a>],
 ) -> Result<(Boxed<Pat>, &'a [Placed<'a>]), TextFault>
-    ensures { Gives (λ x. (x.0, places x.1.now)) result (pattern_in stop room One (places tokens.now)) }
+    ensures { ReadsAs result (pattern_in stop room One (places tokens.now)) }
 {
     let (inner, rest) = pattern_in(alloc, stop, room, Extent::One, tokens)?;
     Ok((Boxed::new(alloc, inner)?, rest))
@@ -227,7 +227,7 @@ fn pattern_by<'a>(
     sign: PatternSign,
     tokens: &'a [Placed<'a>],
 ) -> ReadPat<'a>
-    ensures { Gives (λ x. (x.0, places x.1.now)) result (pattern_by stop (pattern_in stop room) sign (places tokens.now)) }
+    ensures { ReadsAs result (pattern_by stop (pattern_in stop room) sign (places tokens.now)) }
 {
     let rest = behind(tokens);
     match sign {
@@ -258,7 +258,7 @@ fn pattern_by<'a>(
 #[cycle(patterns)]
 #[tactic(auto, unfolding(crate::specs::PatternReading::one_at))]
 fn one_at<'a>(alloc: Global, stop: usize, room: u32, tokens: &'a [Placed<'a>]) -> ReadPat<'a>
-    ensures { Gives (λ x. (x.0, places x.1.now)) result (one_at stop (pattern_in stop room) (places tokens.now)) }
+    ensures { ReadsAs result (one_at stop (pattern_in stop room) (places tokens.now)) }
 {
     match begins(tokens) {
         Some(sign) => pattern_by(alloc, stop, room, sign, tokens),
@@ -275,7 +275,7 @@ fn pattern_at<'a>(
     extent: Extent,
     tokens: &'a [Placed<'a>],
 ) -> ReadPat<'a>
-    ensures { Gives (λ x. (x.0, places x.1.now)) result (pattern_at stop (pattern_in stop room) extent (places tokens.now)) }
+    ensures { ReadsAs result (pattern_at stop (pattern_in stop room) extent (places tokens.now)) }
 {
     match extent {
         Extent::One => one_at(alloc, stop, room, tokens),
@@ -299,7 +299,7 @@ pub fn pattern_in<'a>(
     extent: Extent,
     tokens: &'a [Placed<'a>],
 ) -> ReadPat<'a>
-    ensures { Gives (λ x. (x.0, places x.1.now)) result (pattern_in stop room extent (places tokens.now)) }
+    ensures { ReadsAs result (pattern_in stop room extent (places tokens.now)) }
 {
     if room == 0 {
         Err(deep_pattern(stop, tokens))
@@ -316,7 +316,7 @@ pub fn quoted_pattern<'a>(
     room: u32,
     tokens: &'a [Placed<'a>],
 ) -> ReadPat<'a>
-    ensures { Gives (λ x. (x.0, places x.1.now)) result (quoted_pattern stop room (places tokens.now)) }
+    ensures { ReadsAs result (quoted_pattern stop room (places tokens.now)) }
 {
     let rest = expect(Symbol::Quote, stop, tokens)?;
     let (inner, rest) = pattern_in(alloc, stop, room, Extent::One, rest)?;

@@ -2,7 +2,7 @@
 
 ghost use Rattle.std.specs.Prelude.{◌≡◌};
 ghost use Rattle.pm_tokens.specs.Tokens.{places};
-ghost use Rattle.pm_terms.specs.Steps.{Gives};
+ghost use Rattle.pm_terms.specs.Steps.{ReadsAs};
 ghost use Rattle.pm_patterns.specs.PatternReading.{pick_in, spatial_in, premise_in, premise, quoted_premise, spat_in, quoted_spats, next_premise};
 
 use crate::names::name_in;
@@ -45,7 +45,7 @@ impl Part for Pick {
 /// Spatial hypotheses, up to the bracket that closes.
 #[tactic(auto, unfolding(crate::specs::PatternReading::spatial_in))]
 fn spatial_in<'a>(alloc: Global, stop: usize, tokens: &'a [Placed<'a>]) -> ReadSpat<'a>
-    ensures { Gives (λ x. (x.0, places x.1.now)) result (spatial_in stop (places tokens.now)) }
+    ensures { ReadsAs result (spatial_in stop (places tokens.now)) }
 {
     if sees(Symbol::Minus, tokens) {
         let none = List::new(alloc);
@@ -76,7 +76,7 @@ fn next_premise(tokens: &[Placed<'_>]) -> Option<Spat>
 /// Behind `[`, without the bracket that closes it.
 #[tactic(auto, unfolding(crate::specs::PatternReading::premise_in))]
 fn premise_in<'a>(alloc: Global, stop: usize, tokens: &'a [Placed<'a>]) -> ReadSpat<'a>
-    ensures { Gives (λ x. (x.0, places x.1.now)) result (premise_in stop (places tokens.now)) }
+    ensures { ReadsAs result (premise_in stop (places tokens.now)) }
 {
     match next_premise(tokens) {
         Some(found) => Ok((found, behind(tokens))),
@@ -87,7 +87,7 @@ fn premise_in<'a>(alloc: Global, stop: usize, tokens: &'a [Placed<'a>]) -> ReadS
 /// A specialisation pattern in brackets.
 #[tactic(auto, unfolding(crate::specs::PatternReading::premise, pm_terms::specs::Steps::closed_by))]
 fn premise<'a>(alloc: Global, stop: usize, tokens: &'a [Placed<'a>]) -> ReadSpat<'a>
-    ensures { Gives (λ x. (x.0, places x.1.now)) result (premise stop (places tokens.now)) }
+    ensures { ReadsAs result (premise stop (places tokens.now)) }
 {
     let rest = expect(Symbol::OpenBracket, stop, tokens)?;
     let (inner, rest) = premise_in(alloc, stop, rest)?;
@@ -97,7 +97,7 @@ fn premise<'a>(alloc: Global, stop: usize, tokens: &'a [Placed<'a>]) -> ReadSpat
 /// A specialisation pattern in brackets and quotes. The faults are `Unexpected` and `Memory`.
 #[tactic(auto, unfolding(crate::specs::PatternReading::quoted_premise, crate::specs::PatternReading::quoted, pm_terms::specs::Steps::closed_by))]
 pub fn quoted_premise<'a>(alloc: Global, stop: usize, tokens: &'a [Placed<'a>]) -> ReadSpat<'a>
-    ensures { Gives (λ x. (x.0, places x.1.now)) result (quoted_premise stop (places tokens.now)) }
+    ensures { ReadsAs result (quoted_premise stop (places tokens.now)) }
 {
     let rest = expect(Symbol::Quote, stop, tokens)?;
     let (inner, rest) = premise(alloc, stop, rest)?;
@@ -124,7 +124,7 @@ impl Part for Spat {
 /// Specialisation patterns between quotes, one at least. The faults are `Unexpected` and `Memory`.
 #[tactic(auto, unfolding(crate::specs::PatternReading::quoted_spats))]
 pub fn quoted_spats<'a>(alloc: Global, stop: usize, tokens: &'a [Placed<'a>]) -> ReadList<'a, Spat>
-    ensures { Gives (λ x. (x.0, places x.1.now)) result (quoted_spats stop (places tokens.now)) }
+    ensures { ReadsAs result (quoted_spats stop (places tokens.now)) }
 {
     quoted_list(alloc, stop, tokens)
 }

@@ -1,5 +1,6 @@
 -- What is printed is read again.
-use Rattle.std.proofs.Common.{◌≡◌, inl, inr, ℕ, ◌+◌, ◌≤◌, List, length, Result, Ok, sym, ap, subst}
+use Rattle.std.proofs.Common.{◌≡◌, inl, inr, ℕ, ◌+◌, ◌<◌, List, length, Result, Ok, sym, ap, subst}
+use Rattle.pm_logic.specs.declared.limits.TheConstants.{MAX_LEVELS}
 use Rattle.pm_tokens.specs.Tokens.{Token, Place}
 use Rattle.pm_tokens.specs.Texts.{tokens}
 use Rattle.pm_terms.specs.declared.fault.TextFault.{TextFault}
@@ -55,13 +56,13 @@ unfolding read_term read_pure read_formula
 shallow_printed_is_read = record {
   terms = λ base names a w r few levels. ap (λ read. counted_from base read)
       (read_at (λ xs. IsTerm names sum xs a) (term_pieces 0 names a) (printing_is_lexed.terms names a w r) (printing_is_derived.terms names a w r) (λ end stop ts. term_of names end stop ts)
-      (λ read. read ≡ Ok a) (λ end ts same d. shallow_is_read.terms names end ts a d (subst (λ xs. openings xs ≤ 199) (sym same) few) levels));
+      (λ read. read ≡ Ok a) (λ end ts same d. shallow_is_read.terms names end ts a d (subst (λ xs. openings xs < MAX_LEVELS) (sym same) few) levels));
   pures = λ base names p w r few levels. ap (λ read. counted_from base read)
       (read_at (λ xs. IsPure names Ors xs p) (pure_pieces 0 names p) (printing_is_lexed.pures names p w r) (printing_is_derived.pures names p w r) (λ end stop ts. pure_of names end stop ts)
-      (λ read. read ≡ Ok p) (λ end ts same d. shallow_is_read.pures names end ts p d (subst (λ xs. openings xs ≤ 199) (sym same) few) levels));
+      (λ read. read ≡ Ok p) (λ end ts same d. shallow_is_read.pures names end ts p d (subst (λ xs. openings xs < MAX_LEVELS) (sym same) few) levels));
   formulas = λ base preds names f h few levels.
       let derived = printing_is_derived.formulas preds names f h in
       ap (λ read. counted_from base read)
       (read_at (λ xs. IsFormula (callables 0 preds) names Wands derived.0 xs f) (formula_pieces preds 0 names f) (printing_is_lexed.formulas preds names f h) derived.1 (λ end stop ts. formula_of (callables 0 preds) names end stop ts)
-      (λ read. read ≡ Ok f) (λ end ts same d. shallow_is_read.formulas (callables 0 preds) names end ts derived.0 f d (subst (λ xs. openings xs ≤ 199) (sym same) few) levels));
+      (λ read. read ≡ Ok f) (λ end ts same d. shallow_is_read.formulas (callables 0 preds) names end ts derived.0 f d (subst (λ xs. openings xs < MAX_LEVELS) (sym same) few) levels));
 }

@@ -1,5 +1,6 @@
 -- What holds of reading and printing together.
 use Rattle.std.specs.Prelude.{◌≡◌, ◌≢◌, ◌⊎◌, ℕ, ◌+◌, ◌<◌, ◌≤◌, ◌^◌, List, [], length, get_or, IsTrue, Result, Ok}
+use Rattle.pm_logic.specs.declared.limits.TheConstants.{MAX_LEVELS}
 use Rattle.pm_logic.specs.declared.formula.Term.{Term}
 use Rattle.pm_logic.specs.declared.formula.Pure.{Pure}
 use Rattle.pm_logic.specs.declared.formula.Formula.{Formula}
@@ -66,8 +67,8 @@ pub record PrintedIsRead : Type 0 where
   pub pures : (base : ℕ) (names : Names) (p : Pure) → AreNames names → PureInRange (length names) p → IsReadAgain p (read_pure base names (pure_text names p))
   pub formulas : (base : ℕ) (preds : List Pred) (names : Names) (f : Formula) → IsPrintable preds names f → IsReadAgain f (read_formula base preds names (formula_text preds names f))
 
--- It isn't too deep where its tokens open no more than 199 constructs and its tree has no more than 200 levels.
+-- It isn't too deep where its tokens open fewer than MAX_LEVELS constructs and its tree has no more than MAX_LEVELS levels.
 pub record ShallowPrintedIsRead : Type 0 where
-  pub terms : (base : ℕ) (names : Names) (a : Term) → AreNames names → TermInRange (length names) a → openings (tokens_of (term_pieces 0 names a)) ≤ 199 → term_depth a ≤ 200 → read_term base names (term_text names a) ≡ Ok a
-  pub pures : (base : ℕ) (names : Names) (p : Pure) → AreNames names → PureInRange (length names) p → openings (tokens_of (pure_pieces 0 names p)) ≤ 199 → pure_depth p ≤ 200 → read_pure base names (pure_text names p) ≡ Ok p
-  pub formulas : (base : ℕ) (preds : List Pred) (names : Names) (f : Formula) → IsPrintable preds names f → openings (tokens_of (formula_pieces preds 0 names f)) ≤ 199 → depth_of f ≤ 200 → read_formula base preds names (formula_text preds names f) ≡ Ok f
+  pub terms : (base : ℕ) (names : Names) (a : Term) → AreNames names → TermInRange (length names) a → openings (tokens_of (term_pieces 0 names a)) < MAX_LEVELS → term_depth a ≤ MAX_LEVELS → read_term base names (term_text names a) ≡ Ok a
+  pub pures : (base : ℕ) (names : Names) (p : Pure) → AreNames names → PureInRange (length names) p → openings (tokens_of (pure_pieces 0 names p)) < MAX_LEVELS → pure_depth p ≤ MAX_LEVELS → read_pure base names (pure_text names p) ≡ Ok p
+  pub formulas : (base : ℕ) (preds : List Pred) (names : Names) (f : Formula) → IsPrintable preds names f → openings (tokens_of (formula_pieces preds 0 names f)) < MAX_LEVELS → depth_of f ≤ MAX_LEVELS → read_formula base preds names (formula_text preds names f) ≡ Ok f

@@ -20,7 +20,7 @@ pub fn printed_is_read()
     ensures { PrintedIsRead }
 {}
 
-/// It isn't too deep where its tokens open no more than 199 constructs and its tree has no more than 200 levels.
+/// It isn't too deep where its tokens open fewer than `MAX_LEVELS` constructs and its tree has no more than `MAX_LEVELS` levels.
 #[tactic(auto, using(crate::proofs::ReadAgain::shallow_printed_is_read))]
 pub fn shallow_printed_is_read()
     ensures { ShallowPrintedIsRead }

@@ -15,7 +15,7 @@ use Rattle.pm_logic.proofs.Views.{view_both}
 use Rattle.pm_logic.proofs.Scopes.{pure_scoped_in_to}
 use Rattle.pm_logic.proofs.Sizes.{depth_pure}
 use Rattle.pm_rules.specs.Equations.{all_of, IsFacts}
-use Rattle.pm_rules.specs.Linear.{IsShown, HasSecond, IsLinear}
+use Rattle.pm_rules.specs.Linear.{IsShown, HasSecond, HasFactors}
 use Rattle.pm_rules.specs.Certificates.{facts_of, Shows, ShowsSecond}
 
 -- ---- the second list
@@ -72,7 +72,7 @@ all_of_facts : (p : Pure) → IsFacts p → p ≡ all_of (facts_of p)
 unfolding IsFacts
 all_of_facts p h = h.1 ∙ ap all_of (sym (facts_of_all h.0) ∙ ap facts_of (sym h.1))
 
-pub linear_from : (cs ds : List ℤ) (vars : ℕ) (p g : Pure) (left right : Formula) → left ≡ Fact p → right ≡ Fact g → vars ≤ 65 → Shows cs p g → ShowsSecond ds p g → IsLinear cs ds vars left right
+pub linear_from : (cs ds : List ℤ) (vars : ℕ) (p g : Pure) (left right : Formula) → left ≡ Fact p → right ≡ Fact g → vars ≤ 65 → Shows cs p g → ShowsSecond ds p g → HasFactors cs ds vars left right
 unfolding Shows ShowsSecond
 linear_from cs ds vars p g left right e f few h k = record {
   fs = facts_of p;
@@ -91,7 +91,7 @@ same_fact p q f e d = cc (e, d)
 own_facts : (fs : List Pure) (p : Pure) → p ≡ all_of fs → fs ≡ facts_of p
 own_facts fs p e = sym (facts_of_all fs) ∙ ap facts_of (sym e)
 
-pub linear_first : (cs ds : List ℤ) (vars : ℕ) (p g : Pure) (left right : Formula) → left ≡ Fact p → right ≡ Fact g → IsLinear cs ds vars left right → Shows cs p g
+pub linear_first : (cs ds : List ℤ) (vars : ℕ) (p g : Pure) (left right : Formula) → left ≡ Fact p → right ≡ Fact g → HasFactors cs ds vars left right → Shows cs p g
 unfolding Shows IsFacts
 linear_first cs ds vars p g left right e f h =
     let d = same_fact p (all_of h.fs) left e h.left_is in
@@ -99,7 +99,7 @@ linear_first cs ds vars p g left right e f h =
     let Q : List Pure → Type 0 = λ x. IsShown cs x g in
     ((h.fs, d), subst Q (own_facts h.fs p d) (subst P (same_fact h.g g right h.right_is f) h.first))
 
-pub linear_second : (cs ds : List ℤ) (vars : ℕ) (p g : Pure) (left right : Formula) → left ≡ Fact p → right ≡ Fact g → IsLinear cs ds vars left right → ShowsSecond ds p g
+pub linear_second : (cs ds : List ℤ) (vars : ℕ) (p g : Pure) (left right : Formula) → left ≡ Fact p → right ≡ Fact g → HasFactors cs ds vars left right → ShowsSecond ds p g
 unfolding ShowsSecond
 linear_second cs ds vars p g left right e f h =
     let d = same_fact p (all_of h.fs) left e h.left_is in
@@ -107,7 +107,7 @@ linear_second cs ds vars p g left right e f h =
     let Q : List Pure → Type 0 = λ x. HasSecond ds x g in
     subst Q (own_facts h.fs p d) (subst P (same_fact h.g g right h.right_is f) h.second)
 
-pub linear_few : (cs ds : List ℤ) (vars : ℕ) (left right : Formula) → IsLinear cs ds vars left right → vars ≤ 65
+pub linear_few : (cs ds : List ℤ) (vars : ℕ) (left right : Formula) → HasFactors cs ds vars left right → vars ≤ 65
 linear_few cs ds vars left right h = h.few
 
 pub ruleset linears = (formula_lemmas, scoped_fact, fact_depth, shows_facts, linear_from, linear_first, linear_second, linear_few)

@@ -18,7 +18,7 @@ use Rattle.pm_logic.proofs.Scopes.{call_fit_to}
 use Rattle.pm_logic.proofs.Views.{view_all, view_ex}
 use Rattle.pm_rules.specs.declared.pattern.Unary.TheVariants as unary
 use Rattle.pm_rules.specs.declared.pattern.Binary.TheVariants as binary
-use Rattle.pm_rules.specs.Equations.{IsSpecialized, IsWitnessed, IsRewritten, IsFolded}
+use Rattle.pm_rules.specs.Equations.{IsAllE, IsExI, IsRewrite, IsFold}
 use Rattle.pm_rules.specs.Rules.{IsFit, HasFitBodies}
 use Rattle.pm_rules.proofs.Matched.{one_same, two_same}
 
@@ -36,13 +36,13 @@ depth_all b = ap depth_of (view_all b) ∙ depth_tree_all b
 pub depth_ex : (b : Formula) → depth_of (view.Ex b) ≡ suc (depth_of b)
 depth_ex b = ap depth_of (view_ex b) ∙ depth_tree_ex b
 
-pub specialized : (t : Term) (b left right : Formula) → left ≡ view.All b → (right ≡ opened_of b t) ↔ IsSpecialized t left right
+pub specialized : (t : Term) (b left right : Formula) → left ≡ view.All b → (right ≡ opened_of b t) ↔ IsAllE t left right
 specialized t b left right e = (
   λ h. record { b = b; left_is = e; right_is = h },
   λ h. h.right_is ∙ ap (λ x. opened_of x t) (one_same unary.All h.b b (sym h.left_is ∙ e)),
 )
 
-pub witnessed : (t : Term) (b left right : Formula) → right ≡ view.Ex b → (left ≡ opened_of b t) ↔ IsWitnessed t left right
+pub witnessed : (t : Term) (b left right : Formula) → right ≡ view.Ex b → (left ≡ opened_of b t) ↔ IsExI t left right
 witnessed t b left right e = (
   λ h. record { b = b; left_is = h; right_is = e },
   λ h. h.left_is ∙ ap (λ x. opened_of x t) (one_same unary.Ex h.b b (sym h.right_is ∙ e)),
@@ -51,12 +51,12 @@ witnessed t b left right e = (
 equation_same : (s t s' t' : Term) → Fact (Eq s t) ≡ Fact (Eq s' t') → (s ≡ s') × (t ≡ t')
 equation_same s t s' t' e = (cc, cc)
 
-pub rewritten_from : (b : Formula) (s t : Term) (left right from : Formula) → left ≡ view.And (Fact (Eq s t)) from → IsRewritten b left right → from ≡ opened_of b s
+pub rewritten_from : (b : Formula) (s t : Term) (left right from : Formula) → left ≡ view.And (Fact (Eq s t)) from → IsRewrite b left right → from ≡ opened_of b s
 rewritten_from b s t left right from e h =
     let sides = two_same binary.And (Fact (Eq s t)) from (Fact (Eq h.s h.t)) (opened_of b h.s) (sym e ∙ h.left_is) in
     sides.1 ∙ ap (opened_of b) (sym (equation_same s t h.s h.t sides.0).0)
 
-pub rewritten : (b : Formula) (s t : Term) (left right from : Formula) → left ≡ view.And (Fact (Eq s t)) from → from ≡ opened_of b s → (right ≡ opened_of b t) ↔ IsRewritten b left right
+pub rewritten : (b : Formula) (s t : Term) (left right from : Formula) → left ≡ view.And (Fact (Eq s t)) from → from ≡ opened_of b s → (right ≡ opened_of b t) ↔ IsRewrite b left right
 rewritten b s t left right from e f = (
   λ h. record { s = s; t = t; left_is = e ∙ ap (view.And (Fact (Eq s t))) f; right_is = h },
   λ h. h.right_is ∙ ap (opened_of b) (sym (equation_same s t h.s h.t (two_same binary.And (Fact (Eq s t)) from (Fact (Eq h.s h.t)) (opened_of b h.s) (sym e ∙ h.left_is)).0).1),
@@ -70,7 +70,7 @@ as_equation s t left fact fact' from from' e f g h = e ∙ ap (λ x. view.And x 
 
 -- ---- folding
 
-pub folded : (preds : Preds) (p : ℕ) (args : List Term) (q : Pred) (body call : Formula) → call ≡ Call p args → Some q ≡ slice_get preds.list p → (body ≡ subst_of q.body args) ↔ IsFolded preds body call
+pub folded : (preds : Preds) (p : ℕ) (args : List Term) (q : Pred) (body call : Formula) → call ≡ Call p args → Some q ≡ slice_get preds.list p → (body ≡ subst_of q.body args) ↔ IsFold preds body call
 folded preds p args q body call e f = (
   λ h. record { p = p; there = slice_get_within preds.list p q (sym f); args = args; body_is = h ∙ ap (λ x. subst_of x args) (sym (body_some preds.list p q f)); call_is = e },
   λ h.

@@ -1,6 +1,7 @@
 pub mod Matched
 pub mod Letters
 pub mod Computed
+pub mod Framed
 pub mod Raised
 pub mod Quantified
 pub mod Conjunctions

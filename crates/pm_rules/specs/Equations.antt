@@ -1,4 +1,4 @@
--- The rows whose formulas are computed: letters, and the sides as equations.
+-- The relations of the rows whose formulas are computed, by the names of the rules: letters, and the sides as equations.
 use Rattle.std.specs.Prelude.{◌≡◌, ℕ, ◌+◌, ◌<◌, List, [], ◌∷◌, length}
 use Rattle.pm_logic.specs.declared.formula.Term.{Term}
 use Rattle.pm_logic.specs.declared.formula.Term.TheVariants.{Var}
@@ -15,32 +15,18 @@ use Rattle.pm_logic.specs.Scope.{body_of}
 use Rattle.pm_logic.specs.Substitution.{raised, subst_of, shift_of, opened_of}
 
 -- P ⊢ Q / P[σ] ⊢ Q[σ]
-pub record IsInstantiated (sigma : List Term) (left1 right1 left right : Formula) : Type 0 where
+pub record IsInst (sigma : List Term) (left1 right1 left right : Formula) : Type 0 where
   pub left_is : left ≡ subst_of left1 sigma
   pub right_is : right ≡ subst_of right1 sigma
 
--- k+1 | P↑ ⊢ B / P ⊢ ∀ B
-pub record IsGeneralized (left1 right1 left right : Formula) : Type 0 where
-  pub b : Formula
-  pub left1_is : left1 ≡ shift_of left
-  pub right1_is : right1 ≡ b
-  pub right_is : right ≡ view.All b
-
--- k+1 | B ⊢ Q↑ / ∃ B ⊢ Q
-pub record IsEliminated (left1 right1 left right : Formula) : Type 0 where
-  pub b : Formula
-  pub left1_is : left1 ≡ b
-  pub right1_is : right1 ≡ shift_of right
-  pub left_is : left ≡ view.Ex b
-
 -- ∀ B ⊢ B[t]
-pub record IsSpecialized (t : Term) (left right : Formula) : Type 0 where
+pub record IsAllE (t : Term) (left right : Formula) : Type 0 where
   pub b : Formula
   pub left_is : left ≡ view.All b
   pub right_is : right ≡ opened_of b t
 
 -- B[t] ⊢ ∃ B
-pub record IsWitnessed (t : Term) (left right : Formula) : Type 0 where
+pub record IsExI (t : Term) (left right : Formula) : Type 0 where
   pub b : Formula
   pub left_is : left ≡ opened_of b t
   pub right_is : right ≡ view.Ex b
@@ -54,25 +40,22 @@ unfoldable pub IsFacts : Pure → Type 0
 IsFacts p = (fs : List Pure) × (p ≡ all_of fs)
 
 -- ⌜f1 ∧ (f2 ∧ … ∧ True)⌝ ⊢ ⌜g⌝
-pub record IsOfFacts (left right : Formula) : Type 0 where
+pub record IsLinear (left right : Formula) : Type 0 where
   pub p : Pure
   pub g : Pure
   pub facts : IsFacts p
   pub left_is : left ≡ Fact p
   pub right_is : right ≡ Fact g
 
-abbrev pub IsNoEquation : Formula → Type 0
-IsNoEquation f = (s t : Term) → f ≡ Fact (Eq s t) → ⊥
-
 -- ⌜s = t⌝ ∧ B[s] ⊢ B[t]
-pub record IsRewritten (b left right : Formula) : Type 0 where
+pub record IsRewrite (b left right : Formula) : Type 0 where
   pub s : Term
   pub t : Term
   pub left_is : left ≡ view.And (Fact (Eq s t)) (opened_of b s)
   pub right_is : right ≡ opened_of b t
 
--- l↦{a+b}v and l↦{a}v ∗ l↦{b}v
-pub record IsSplit (whole parts : Formula) : Type 0 where
+-- l↦{a+b}v ⊢ l↦{a}v ∗ l↦{b}v
+pub record IsPtsSplit (whole parts : Formula) : Type 0 where
   pub l : Term
   pub v : Term
   pub a : ℕ
@@ -80,8 +63,12 @@ pub record IsSplit (whole parts : Formula) : Type 0 where
   pub whole_is : whole ≡ Pts l (a + b) v
   pub parts_are : parts ≡ view.Sep (Pts l a v) (Pts l b v)
 
+-- l↦{a}v ∗ l↦{b}v ⊢ l↦{a+b}v
+abbrev pub IsPtsJoin : Formula → Formula → Type 0
+IsPtsJoin parts whole = IsPtsSplit whole parts
+
 -- l↦{a}v ∗ l↦{b}w ⊢ ⌜v = w⌝
-pub record IsAgreed (left right : Formula) : Type 0 where
+pub record IsPtsAgree (left right : Formula) : Type 0 where
   pub l : Term
   pub v : Term
   pub w : Term
@@ -91,7 +78,7 @@ pub record IsAgreed (left right : Formula) : Type 0 where
   pub right_is : right ≡ Fact (Eq v w)
 
 -- l↦{a}v ∗ l↦{b}w ⊢ ⌜False⌝
-pub record IsTaken (left right : Formula) : Type 0 where
+pub record IsPtsOver (left right : Formula) : Type 0 where
   pub l : Term
   pub v : Term
   pub w : Term
@@ -101,7 +88,7 @@ pub record IsTaken (left right : Formula) : Type 0 where
   pub right_is : right ≡ Fact False
 
 -- l↦v ⊢ |==> l↦w, both whole
-pub record IsWritten (left right : Formula) : Type 0 where
+pub record IsPtsWrite (left right : Formula) : Type 0 where
   pub l : Term
   pub v : Term
   pub w : Term
@@ -118,20 +105,24 @@ pub record IsFresh (f : Formula) : Type 0 where
   pub is : f ≡ Pts (Var 0) UNIT (raised v)
 
 -- P ⊢ |==> ∃ (index 0 ↦ v↑)
-pub record IsAllocated (right : Formula) : Type 0 where
+pub record IsPtsNew (right : Formula) : Type 0 where
   pub f : Formula
   pub fresh : IsFresh f
   pub right_is : right ≡ view.Upd (view.Ex f)
 
--- body p[args] and p(args), of a predicate of the table
-pub record IsFolded (preds : Preds) (body call : Formula) : Type 0 where
+-- body p[args] ⊢ p(args), of a predicate of the table
+pub record IsFold (preds : Preds) (body call : Formula) : Type 0 where
   pub p : ℕ
   pub there : p < length preds.list
   pub args : List Term
   pub body_is : body ≡ subst_of (body_of preds.list p) args
   pub call_is : call ≡ Call p args
 
--- ---- brackets
+-- p(args) ⊢ body p[args]
+abbrev pub IsUnfold : Preds → Formula → Formula → Type 0
+IsUnfold preds call body = IsFold preds body call
+
+-- ---- brackets; that of `Linear` is in Linear
 
 -- l↦{a}v ∗ m↦{b}w with a + b > UNIT
 pub record IsOverfull (left : Formula) : Type 0 where
@@ -149,3 +140,23 @@ pub record IsLaterTimeless (left : Formula) : Type 0 where
   pub p : Formula
   pub left_is : left ≡ view.Later p
   pub timeless : IsTimeless p
+
+-- ---- what the code tests
+
+abbrev pub IsNoEquation : Formula → Type 0
+IsNoEquation f = (s t : Term) → f ≡ Fact (Eq s t) → ⊥
+
+-- the two rows with a shifted letter by their sides
+-- k+1 | P↑ ⊢ B / P ⊢ ∀ B
+pub record IsGeneralized (left1 right1 left right : Formula) : Type 0 where
+  pub b : Formula
+  pub left1_is : left1 ≡ shift_of left
+  pub right1_is : right1 ≡ b
+  pub right_is : right ≡ view.All b
+
+-- k+1 | B ⊢ Q↑ / ∃ B ⊢ Q
+pub record IsEliminated (left1 right1 left right : Formula) : Type 0 where
+  pub b : Formula
+  pub left1_is : left1 ≡ b
+  pub right1_is : right1 ≡ shift_of right
+  pub left_is : left ≡ view.Ex b

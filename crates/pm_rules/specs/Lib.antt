@@ -1,12 +1,12 @@
 pub mod PureShapes
 pub mod Shapes
 pub mod Notation
+pub mod Equations
+pub mod Linear
 pub mod Rows
 pub mod Read
 pub mod Signs
 pub mod Matching
-pub mod Equations
-pub mod Linear
 pub mod Sums
 pub mod Certificates
 pub mod Rules

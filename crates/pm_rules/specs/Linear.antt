@@ -158,7 +158,7 @@ HasSecond ds fs (either a b) = ds ≡ []
 HasSecond ds fs (nope a) = ds ≡ []
 
 -- ⌜f1 ∧ (f2 ∧ … ∧ True)⌝ ⊢ ⌜g⌝ with such factors
-pub record IsLinear (cs ds : List ℤ) (vars : ℕ) (left right : Formula) : Type 0 where
+pub record HasFactors (cs ds : List ℤ) (vars : ℕ) (left right : Formula) : Type 0 where
   pub fs : List Pure
   pub g : Pure
   pub left_is : left ≡ Fact (all_of fs)

@@ -1,5 +1,6 @@
 -- The shapes and rows that the code's static data stand for.
 use Rattle.std.specs.Prelude.{ℕ, List, [], ◌∷◌}
+use Rattle.pm_logic.specs.declared.formula.Preds.{Preds}
 use Rattle.pm_rules.specs.declared.pattern.Letter.{Letter}
 use Rattle.pm_rules.specs.declared.pattern.Letter.TheVariants as letter
 use Rattle.pm_rules.specs.declared.pattern.PureLetter.{PureLetter}
@@ -20,7 +21,7 @@ use Rattle.pm_rules.specs.PureShapes as pure_shape
 use Rattle.pm_rules.specs.Shapes as shape
 use Rattle.pm_rules.specs.Shapes.{Sequent}
 use Rattle.pm_rules.specs.Notation.{◌⊢◌, All, Ex, P, Q, B, P↑, Q↑}
-use Rattle.pm_rules.specs.Rows.{Row, Shapes, Computed, under}
+use Rattle.pm_rules.specs.Rows.{Row, Shapes, Computed, under, Frame, Shaped, Counted, frame}
 
 abbrev pub place : Letter → ℕ
 place letter.First = 0
@@ -54,11 +55,17 @@ sequents_of count.Zero = []
 sequents_of (count.One a) = sequent_of a ∷ []
 sequents_of (count.Two a b) = sequent_of a ∷ sequent_of b ∷ []
 
-abbrev pub row_of : code.Row → Row
-row_of (variant.Shapes n given c) = Shapes n 0 (sequents_of given) (sequent_of c)
-row_of (variant.AllIntro n) = under n (P↑ ⊢ B) (P ⊢ All B)
-row_of (variant.ExElim n) = under n (B ⊢ Q↑) (Ex B ⊢ Q)
-row_of (variant.Computed n many) = Computed n many
+-- a static row has all of a row but its relation
+abbrev pub frame_of : code.Row → Frame
+frame_of (variant.Shapes n given c) = Shaped n 0 (sequents_of given) (sequent_of c)
+frame_of (variant.AllIntro n) = frame (under n (P↑ ⊢ B) (P ⊢ All B))
+frame_of (variant.ExElim n) = frame (under n (B ⊢ Q↑) (Ex B ⊢ Q))
+frame_of (variant.Computed n many) = Counted n many
+
+-- the relation of a row, which one of shapes doesn't have
+abbrev pub HasEquations : Row → Preds → List Entail → Entail → Type 0
+HasEquations (Shapes n more given c) preds ps e = ⊥
+HasEquations (Computed n count holds) preds ps e = holds preds ps e
 
 -- the premises that are handed in
 abbrev pub given_of : Given → List Entail

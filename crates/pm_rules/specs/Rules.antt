@@ -1,5 +1,5 @@
 -- The conditions by which a rule leads from premises to a conclusion.
-use Rattle.std.specs.Prelude.{◌≡◌, ◌⊎◌, ◌+◌, ◌≤◌, ℕ, List, [], ◌∷◌, ◌++◌, length, Option, Result, Ok, Err, slice_get, MatchOption}
+use Rattle.std.specs.Prelude.{◌≡◌, ◌+◌, ◌≤◌, ℕ, List, [], ◌∷◌, ◌++◌, length, Option, Result, Ok, Err, slice_get, MatchOption}
 use Rattle.std.specs.List.{AllByRecursion}
 use Rattle.std.specs.Option.{option_to_list}
 use Rattle.pm_logic.specs.declared.formula.Formula.{Formula}
@@ -8,13 +8,13 @@ use Rattle.pm_logic.specs.declared.formula.TheConstants.{BOUND}
 use Rattle.pm_logic.specs.Scope.{Scoped}
 use Rattle.pm_logic.specs.Size.{depth_of}
 use Rattle.pm_rules.specs.declared.rules.Rule.{Rule}
-use Rattle.pm_rules.specs.declared.rules.Rule.TheVariants.{Inst, AllE, ExI, Linear, Rewrite, PtsSplit, PtsJoin, PtsAgree, PtsOver, PtsWrite, PtsNew, Fold, Unfold, Timeless}
+use Rattle.pm_rules.specs.declared.rules.Rule.TheVariants.{Rewrite}
 use Rattle.pm_rules.specs.declared.rules.Entail.{Entail}
+use Rattle.pm_rules.specs.declared.rules.Condition.{Condition}
+use Rattle.pm_rules.specs.declared.rules.Condition.TheVariants.{Premises, Variables, Arguments, Shape, Bracket}
 use Rattle.pm_rules.specs.declared.rules.Unmet.{Unmet}
 use Rattle.pm_rules.specs.Shapes.{Letters, Sequent, instance}
-use Rattle.pm_rules.specs.Rows.{Row, Shapes, Computed, row}
-use Rattle.pm_rules.specs.Equations.{IsInstantiated, IsSpecialized, IsWitnessed, IsOfFacts, IsRewritten, IsSplit, IsAgreed, IsTaken, IsWritten, IsAllocated, IsFolded, IsOverfull, IsLaterTimeless}
-use Rattle.pm_rules.specs.Linear.{IsLinear}
+use Rattle.pm_rules.specs.Rows.{Row, Shapes, Computed, row, HasArguments, HasBracket, Frame, Shaped, Counted, frame_for}
 
 -- ---- what is asked of the caller
 
@@ -42,40 +42,37 @@ pub record HasFitBodies (preds : Preds) : Type 0 where
 abbrev pub premises : Option Entail → Option Entail → List Entail
 premises first second = option_to_list first ++ option_to_list second
 
-abbrev pub number_of : Row → ℕ
-number_of (Shapes n more given c) = n
-number_of (Computed n count) = n
+abbrev pub number_of : Frame → ℕ
+number_of (Shaped n more given c) = n
+number_of (Counted n count) = n
 
 -- the number of a rule, its row's
 abbrev pub rule_number : Rule → ℕ
-rule_number rule = number_of (row rule)
+rule_number rule = number_of (frame_for rule)
 
-abbrev pub count_of : Row → ℕ
-count_of (Shapes n more given c) = length given
-count_of (Computed n count) = count
+abbrev pub count_of : Frame → ℕ
+count_of (Shaped n more given c) = length given
+count_of (Counted n count) = count
 
 -- how many premises the rule takes
 abbrev pub premise_count : Rule → ℕ
-premise_count rule = count_of (row rule)
+premise_count rule = count_of (frame_for rule)
 
 -- 1: as many premises as the row has
 abbrev pub HasPremises : Rule → List Entail → Type 0
 HasPremises rule ps = length ps ≡ premise_count rule
 
 -- 2: their variables are the row's; a premise of a computed row has any number
-abbrev pub HaveVariables : Row → List Entail → Entail → Type 0
-HaveVariables (Shapes n more given c) ps e = AllByRecursion (λ p. p.vars ≡ e.vars + more) ps
-HaveVariables (Computed n count) ps e = Unit {0}
+abbrev pub HaveVariables : Frame → List Entail → Entail → Type 0
+HaveVariables (Shaped n more given c) ps e = AllByRecursion (λ p. p.vars ≡ e.vars + more) ps
+HaveVariables (Counted n count) ps e = Unit {0}
 
 abbrev pub HasVariables : Rule → List Entail → Entail → Type 0
-HasVariables rule ps e = HaveVariables (row rule) ps e
+HasVariables rule ps e = HaveVariables (frame_for rule) ps e
 
--- 3: there is a term for each variable of the premise
-unfoldable pub HasArguments : Rule → List Entail → Type 0
-HasArguments (Inst sigma) ps = AllByRecursion (λ p. p.vars ≡ length sigma) ps
-HasArguments _ ps = Unit {0}
+-- 3: `HasArguments`: an instance has a term for each variable of its premise
 
--- 4: the entailments have the row's shapes, the same letter being the same formula
+-- 4: the entailments have the row's shapes, the same letter being the same formula, or stand in its relation
 pub record IsInstance (s : Letters) (a : Sequent) (e : Entail) : Type 0 where
   pub left_is : e.left ≡ instance s a.left
   pub right_is : e.right ≡ instance s a.right
@@ -91,40 +88,14 @@ pub record HasLetters (given : List Sequent) (c : Sequent) (ps : List Entail) (e
   pub premises : AreInstances letters given ps
   pub conclusion : IsInstance letters c e
 
-abbrev pub AtOne : (Entail → Type 0) → List Entail → Type 0
-AtOne claim [] = ⊥
-AtOne claim (p ∷ []) = claim p
-AtOne claim (p ∷ q ∷ ps) = ⊥
-
-unfoldable pub HasEquations : Preds → Rule → List Entail → Entail → Type 0
-HasEquations preds (Inst sigma) ps e = AtOne (λ p. IsInstantiated sigma p.left p.right e.left e.right) ps
-HasEquations preds (AllE t) ps e = IsSpecialized t e.left e.right
-HasEquations preds (ExI t) ps e = IsWitnessed t e.left e.right
-HasEquations preds (Linear c d) ps e = IsOfFacts e.left e.right
-HasEquations preds (Rewrite b) ps e = IsRewritten b e.left e.right
-HasEquations preds PtsSplit ps e = IsSplit e.left e.right
-HasEquations preds PtsJoin ps e = IsSplit e.right e.left
-HasEquations preds PtsAgree ps e = IsAgreed e.left e.right
-HasEquations preds PtsOver ps e = IsTaken e.left e.right
-HasEquations preds PtsWrite ps e = IsWritten e.left e.right
-HasEquations preds PtsNew ps e = IsAllocated e.right
-HasEquations preds Fold ps e = IsFolded preds e.left e.right
-HasEquations preds Unfold ps e = IsFolded preds e.right e.left
-HasEquations preds _ ps e = ⊥
-
-abbrev pub HasShapeOf : Row → Preds → Rule → List Entail → Entail → Type 0
-HasShapeOf (Shapes n more given c) preds rule ps e = HasLetters given c ps e
-HasShapeOf (Computed n count) preds rule ps e = HasEquations preds rule ps e
+abbrev pub HasShapeOf : Row → Preds → List Entail → Entail → Type 0
+HasShapeOf (Shapes n more given c) preds ps e = HasLetters given c ps e
+HasShapeOf (Computed n count holds) preds ps e = holds preds ps e
 
 abbrev pub HasShape : Preds → Rule → List Entail → Entail → Type 0
-HasShape preds rule ps e = HasShapeOf (row rule) preds rule ps e
+HasShape preds rule ps e = HasShapeOf (row rule) preds ps e
 
--- 5: the row's bracket
-unfoldable pub HasBracket : Rule → Entail → Type 0
-HasBracket (Linear c d) e = IsLinear c d e.vars e.left e.right
-HasBracket PtsOver e = IsOverfull e.left
-HasBracket Timeless e = IsLaterTimeless e.left
-HasBracket _ e = Unit {0}
+-- 5: `HasBracket`: what stands in the row's brackets
 
 pub record RuleOk (preds : Preds) (rule : Rule) (ps : List Entail) (e : Entail) : Type 0 where
   pub premises : HasPremises rule ps
@@ -133,14 +104,21 @@ pub record RuleOk (preds : Preds) (rule : Rule) (ps : List Entail) (e : Entail) 
   pub shape : HasShape preds rule ps e
   pub bracket : HasBracket rule e
 
--- the first condition that fails
-abbrev pub FirstUnmet : Preds → Rule → List Entail → Entail → ℕ → Type 0
-FirstUnmet preds rule ps e n =
-    (n ≡ 1) × ¬ HasPremises rule ps
-    ⊎ (n ≡ 2) × HasPremises rule ps × ¬ HasVariables rule ps e
-    ⊎ (n ≡ 3) × HasPremises rule ps × HasVariables rule ps e × ¬ HasArguments rule ps
-    ⊎ (n ≡ 4) × HasPremises rule ps × HasVariables rule ps e × HasArguments rule ps × ¬ HasShape preds rule ps e
-    ⊎ (n ≡ 5) × HasPremises rule ps × HasVariables rule ps e × HasArguments rule ps × HasShape preds rule ps e × ¬ HasBracket rule e
+-- the condition fails, and those before it hold
+abbrev pub FirstUnmet : Preds → Rule → List Entail → Entail → Condition → Type 0
+FirstUnmet preds rule ps e Premises = ¬ HasPremises rule ps
+FirstUnmet preds rule ps e Variables = HasPremises rule ps × ¬ HasVariables rule ps e
+FirstUnmet preds rule ps e Arguments = HasPremises rule ps × HasVariables rule ps e × ¬ HasArguments rule ps
+FirstUnmet preds rule ps e Shape = HasPremises rule ps × HasVariables rule ps e × HasArguments rule ps × ¬ HasShape preds rule ps e
+FirstUnmet preds rule ps e Bracket = HasPremises rule ps × HasVariables rule ps e × HasArguments rule ps × HasShape preds rule ps e × ¬ HasBracket rule e
+
+-- the numbers that are printed
+abbrev pub condition_number : Condition → ℕ
+condition_number Premises = 1
+condition_number Variables = 2
+condition_number Arguments = 3
+condition_number Shape = 4
+condition_number Bracket = 5
 
 -- Ok exactly where all conditions hold, and else the rule's number and the first that fails
 abbrev pub Decides : {T : Type 0} → Preds → Rule → List Entail → Entail → Result T Unmet → Type 0

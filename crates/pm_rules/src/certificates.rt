@@ -5,7 +5,7 @@ ghost use Rattle.pm_logic.specs.Scope.{TermScoped, PureScoped, ScopedIn};
 ghost use Rattle.pm_logic.specs.Size.{pure_depth, depth_of};
 ghost use Rattle.pm_linform.specs.Entries.{IsAtMost};
 ghost use Rattle.pm_rules.specs.Equations.{IsFacts};
-ghost use Rattle.pm_rules.specs.Linear.{IsEquation, IsLinear};
+ghost use Rattle.pm_rules.specs.Linear.{IsEquation, HasFactors};
 ghost use Rattle.pm_rules.specs.Certificates.{IsFactor, IsFirstFactor, FactsAdded, HasRoom, Starts, Closing, Shows, StartsWithRoom, ShowsSecond};
 
 use crate::atoms::{add_failing, add_holding, add_strict};
@@ -163,11 +163,17 @@ fn has_second(factors: &[i64], facts: &Pure, g: &Pure) -> bool
 
 /// Whether the factors show in so many variables that the facts on the left give the atom on the right.
 #[tactic(auto, using(crate::proofs::Certified::linears))]
-pub fn is_linear(first: &[i64], second: &[i64], vars: u32, left: &Formula, right: &Formula) -> bool
+pub fn has_factors(
+    first: &[i64],
+    second: &[i64],
+    vars: u32,
+    left: &Formula,
+    right: &Formula,
+) -> bool
     requires left { ScopedIn vars left.now }
     requires right { ScopedIn vars right.now }
     requires depth { depth_of left.now ≤ BOUND }
-    ensures { IsTrue result ↔ IsLinear first.now second.now vars left.now right.now }
+    ensures { IsTrue result ↔ HasFactors first.now second.now vars left.now right.now }
 {
     if vars as usize > VARIABLES {
         return false;

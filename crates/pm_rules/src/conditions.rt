@@ -4,16 +4,17 @@ ghost use Rattle.std.specs.Prelude.{◌≡◌, ◌↔◌, ◌≤◌, IsTrue, len
 ghost use Rattle.std.specs.List.{AllByRecursion};
 ghost use Rattle.pm_logic.specs.Scope.{ScopedIn};
 ghost use Rattle.pm_logic.specs.Size.{depth_of};
-ghost use Rattle.pm_rules.specs.Read.{row_of, given_of};
-ghost use Rattle.pm_rules.specs.Rules.{number_of, rule_number, count_of, premise_count, HasPremises, HasVariables, HasArguments, HasShape, HasEquations, HasBracket, AreFit, HasFitTemplate, HasFitBodies};
+ghost use Rattle.pm_rules.specs.Rows.{row, HasArguments, HasBracket};
+ghost use Rattle.pm_rules.specs.Read.{frame_of, HasEquations, given_of};
+ghost use Rattle.pm_rules.specs.Rules.{number_of, rule_number, count_of, premise_count, HasPremises, HasVariables, HasShape, AreFit, HasFitTemplate, HasFitBodies};
 
-use crate::certificates::is_linear;
+use crate::certificates::has_factors;
 use crate::equations::{
-    is_agreed, is_allocated, is_folded, is_instantiated, is_later_timeless, is_overfull,
-    is_rewritten, is_specialized, is_split, is_taken, is_witnessed, is_written,
+    is_all_e, is_ex_i, is_fold, is_inst, is_later_timeless, is_overfull, is_pts_agree, is_pts_new,
+    is_pts_over, is_pts_split, is_pts_write, is_rewrite,
 };
 use crate::given::Given;
-use crate::linear::is_of_facts;
+use crate::linear::is_linear;
 use crate::quantifiers::{is_all_intro, is_ex_elim};
 use crate::rules::{Entail, Rule};
 use crate::shapes::has_letters;
@@ -22,7 +23,7 @@ use pm_logic::{BOUND, Preds};
 
 /// The number of the row.
 fn row_number(row: &Row) -> u8
-    ensures { result ≡ number_of (row_of row.now) }
+    ensures { result ≡ number_of (frame_of row.now) }
 {
     match row {
         Row::Shapes { number, .. }
@@ -41,7 +42,7 @@ pub fn rule_number(rule: &Rule) -> u8
 
 /// How many premises the row has.
 fn row_count(row: &Row) -> u8
-    ensures { result ≡ count_of (row_of row.now) }
+    ensures { result ≡ count_of (frame_of row.now) }
 {
     match row {
         Row::Shapes { premises, .. } => match premises {
@@ -102,7 +103,7 @@ pub fn has_variables(rule: &Rule, ps: Given, e: &Entail) -> bool
 }
 
 /// Whether there is a term for each variable of the premise.
-#[tactic(auto, unfolding(crate::specs::Rules::HasArguments))]
+#[tactic(auto, unfolding(crate::specs::Rows::HasArguments))]
 pub fn has_arguments(rule: &Rule, ps: Given) -> bool
     ensures { IsTrue result ↔ HasArguments rule.now (given_of ps.entry) }
 {
@@ -113,39 +114,40 @@ pub fn has_arguments(rule: &Rule, ps: Given) -> bool
 }
 
 /// Whether the sides are computed as the row says.
-#[tactic(auto, unfolding(crate::specs::Rules::HasEquations, crate::specs::Rules::HasFitTemplate, crate::specs::Rules::HasArguments))]
+#[tactic(auto, unfolding(crate::specs::Rules::HasFitTemplate, crate::specs::Rows::HasArguments))]
 fn has_equations(preds: &Preds, rule: &Rule, ps: Given, e: &Entail) -> bool
     requires bodies { HasFitBodies preds.now }
     requires template { HasFitTemplate preds.now rule.now e.now.vars }
     requires premises { AllByRecursion (AreFit preds.now) (given_of ps) }
     requires conclusion { AreFit preds.now e.now }
     requires arguments { HasArguments rule.now (given_of ps) }
-    ensures { IsTrue result ↔ HasEquations preds.now rule.now (given_of ps.entry) e.now }
+    ensures { IsTrue result ↔ HasEquations (row rule.now) preds.now (given_of ps.entry) e.now }
 {
     let left = &e.left;
     let right = &e.right;
     match rule {
         Rule::Inst { sigma } => match ps {
-            Given::One(p) => is_instantiated(sigma, p, e),
+            Given::One(p) => is_inst(sigma, p, e),
             _ => false,
         },
-        Rule::AllE { t } => is_specialized(t, left, right),
-        Rule::ExI { t } => is_witnessed(t, left, right),
-        Rule::Linear { .. } => is_of_facts(left, right),
-        Rule::Rewrite { template } => is_rewritten(template, left, right),
-        Rule::PtsSplit => is_split(left, right),
-        Rule::PtsJoin => is_split(right, left),
-        Rule::PtsAgree => is_agreed(left, right),
-        Rule::PtsOver => is_taken(left, right),
-        Rule::PtsWrite => is_written(left, right),
-        Rule::PtsNew => is_allocated(right),
-        Rule::Fold => is_folded(preds, left, right),
-        Rule::Unfold => is_folded(preds, right, left),
+        Rule::AllE { t } => is_all_e(t, left, right),
+        Rule::ExI { t } => is_ex_i(t, left, right),
+        Rule::Linear { .. } => is_linear(left, right),
+        Rule::Rewrite { template } => is_rewrite(template, left, right),
+        Rule::PtsSplit => is_pts_split(left, right),
+        Rule::PtsJoin => is_pts_split(right, left),
+        Rule::PtsAgree => is_pts_agree(left, right),
+        Rule::PtsOver => is_pts_over(left, right),
+        Rule::PtsWrite => is_pts_write(left, right),
+        Rule::PtsNew => is_pts_new(right),
+        Rule::Fold => is_fold(preds, left, right),
+        Rule::Unfold => is_fold(preds, right, left),
         _ => false,
     }
 }
 
-/// Whether premises and conclusion have the row's shapes.
+/// Whether premises and conclusion have the row's shapes, or stand in its relation.
+#[tactic(auto, using(crate::proofs::Framed::related))]
 pub fn has_shape(preds: &Preds, rule: &Rule, ps: Given, e: &Entail) -> bool
     requires bodies { HasFitBodies preds.now }
     requires template { HasFitTemplate preds.now rule.now e.now.vars }
@@ -167,7 +169,7 @@ pub fn has_shape(preds: &Preds, rule: &Rule, ps: Given, e: &Entail) -> bool
 }
 
 /// Whether the row's bracket holds.
-#[tactic(auto, unfolding(crate::specs::Rules::HasBracket))]
+#[tactic(auto, unfolding(crate::specs::Rows::HasBracket))]
 pub fn has_bracket(rule: &Rule, e: &Entail) -> bool
     requires left { ScopedIn e.now.vars e.now.left }
     requires right { ScopedIn e.now.vars e.now.right }
@@ -175,7 +177,7 @@ pub fn has_bracket(rule: &Rule, e: &Entail) -> bool
     ensures { IsTrue result ↔ HasBracket rule.now e.now }
 {
     match rule {
-        Rule::Linear { first, second } => is_linear(
+        Rule::Linear { first, second } => has_factors(
             first.as_slice(),
             second.as_slice(),
             e.vars,

@@ -3,7 +3,7 @@
 ghost use Rattle.std.specs.Prelude.{◌≡◌, ◌↔◌, ◌+◌, ◌≤◌, ◌<◌, IsTrue, MatchOption, length};
 ghost use Rattle.pm_logic.specs.Scope.{ScopedIn, CallsFit};
 ghost use Rattle.pm_logic.specs.Size.{depth_of};
-ghost use Rattle.pm_rules.specs.Equations.{IsInstantiated, IsSpecialized, IsWitnessed, IsNoEquation, IsRewritten, IsSplit, IsAgreed, IsTaken, IsWritten, IsRaised, IsFresh, IsAllocated, IsFolded, IsOverfull, IsLaterTimeless};
+ghost use Rattle.pm_rules.specs.Equations.{IsInst, IsAllE, IsExI, IsNoEquation, IsRewrite, IsPtsSplit, IsPtsAgree, IsPtsOver, IsPtsWrite, IsRaised, IsFresh, IsPtsNew, IsFold, IsOverfull, IsLaterTimeless};
 ghost use Rattle.pm_rules.specs.Rules.{HasFitBodies};
 
 use crate::rules::Entail;
@@ -12,21 +12,21 @@ use pm_logic::{
 };
 
 /// Whether the conclusion is the premise with the terms for its variables.
-pub fn is_instantiated(sigma: &List<Term>, p: &Entail, e: &Entail) -> bool
+pub fn is_inst(sigma: &List<Term>, p: &Entail, e: &Entail) -> bool
     requires left { ScopedIn (length sigma.now) p.now.left }
     requires right { ScopedIn (length sigma.now) p.now.right }
     requires left_size { length sigma.now + depth_of p.now.left ≤ BOUND }
     requires right_size { length sigma.now + depth_of p.now.right ≤ BOUND }
-    ensures { IsTrue result ↔ IsInstantiated sigma.now p.now.left p.now.right e.now.left e.now.right }
+    ensures { IsTrue result ↔ IsInst sigma.now p.now.left p.now.right e.now.left e.now.right }
 {
     is_subst(&p.left, sigma, &e.left) && is_subst(&p.right, sigma, &e.right)
 }
 
 /// Whether `right` is the body of the universal `left` at the term.
 #[tactic(auto, using(crate::proofs::Computed::depth_all, crate::proofs::Computed::specialized))]
-pub fn is_specialized(t: &Term, left: &Formula, right: &Formula) -> bool
+pub fn is_all_e(t: &Term, left: &Formula, right: &Formula) -> bool
     requires { depth_of left.now ≤ BOUND }
-    ensures { IsTrue result ↔ IsSpecialized t.now left.now right.now }
+    ensures { IsTrue result ↔ IsAllE t.now left.now right.now }
 {
     match left {
         Formula::All(b) => is_opened(b.get(), t, right),
@@ -36,9 +36,9 @@ pub fn is_specialized(t: &Term, left: &Formula, right: &Formula) -> bool
 
 /// Whether `left` is the body of the existential `right` at the term.
 #[tactic(auto, using(crate::proofs::Computed::depth_ex, crate::proofs::Computed::witnessed))]
-pub fn is_witnessed(t: &Term, left: &Formula, right: &Formula) -> bool
+pub fn is_ex_i(t: &Term, left: &Formula, right: &Formula) -> bool
     requires { depth_of right.now ≤ BOUND }
-    ensures { IsTrue result ↔ IsWitnessed t.now left.now right.now }
+    ensures { IsTrue result ↔ IsExI t.now left.now right.now }
 {
     match right {
         Formula::Ex(b) => is_opened(b.get(), t, left),
@@ -57,9 +57,9 @@ fn equation<'a>(f: &'a Formula) -> Option<(&'a Term, &'a Term)>
 }
 
 /// Whether `left` is an equation and the body at its first side, and `right` the body at its second side.
-pub fn is_rewritten(b: &Formula, left: &Formula, right: &Formula) -> bool
+pub fn is_rewrite(b: &Formula, left: &Formula, right: &Formula) -> bool
     requires { depth_of b.now ≤ BOUND }
-    ensures { IsTrue result ↔ IsRewritten b.now left.now right.now }
+    ensures { IsTrue result ↔ IsRewrite b.now left.now right.now }
 {
     match left {
         Formula::And(fact, from) => match equation(fact.get()) {
@@ -71,8 +71,8 @@ pub fn is_rewritten(b: &Formula, left: &Formula, right: &Formula) -> bool
 }
 
 /// Whether the units of the one points-to are those of the two others together, at one location and with one value.
-pub fn is_split(whole: &Formula, parts: &Formula) -> bool
-    ensures { IsTrue result ↔ IsSplit whole.now parts.now }
+pub fn is_pts_split(whole: &Formula, parts: &Formula) -> bool
+    ensures { IsTrue result ↔ IsPtsSplit whole.now parts.now }
 {
     match (whole, parts) {
         (
@@ -108,8 +108,8 @@ pub fn is_split(whole: &Formula, parts: &Formula) -> bool
 }
 
 /// Whether `right` equates the values of two points-to at one location.
-pub fn is_agreed(left: &Formula, right: &Formula) -> bool
-    ensures { IsTrue result ↔ IsAgreed left.now right.now }
+pub fn is_pts_agree(left: &Formula, right: &Formula) -> bool
+    ensures { IsTrue result ↔ IsPtsAgree left.now right.now }
 {
     match (left, right) {
         (Formula::Sep(f, g), Formula::Pure(Pure::Eq(v, w))) => match (f.get(), g.get()) {
@@ -123,8 +123,8 @@ pub fn is_agreed(left: &Formula, right: &Formula) -> bool
 }
 
 /// Whether `left` has two points-to at one location, and `right` is falsehood.
-pub fn is_taken(left: &Formula, right: &Formula) -> bool
-    ensures { IsTrue result ↔ IsTaken left.now right.now }
+pub fn is_pts_over(left: &Formula, right: &Formula) -> bool
+    ensures { IsTrue result ↔ IsPtsOver left.now right.now }
 {
     match (left, right) {
         (Formula::Sep(f, g), Formula::Pure(Pure::False)) => match (f.get(), g.get()) {
@@ -136,8 +136,8 @@ pub fn is_taken(left: &Formula, right: &Formula) -> bool
 }
 
 /// Whether `left` is a whole points-to, and `right` the same with another value after an update.
-pub fn is_written(left: &Formula, right: &Formula) -> bool
-    ensures { IsTrue result ↔ IsWritten left.now right.now }
+pub fn is_pts_write(left: &Formula, right: &Formula) -> bool
+    ensures { IsTrue result ↔ IsPtsWrite left.now right.now }
 {
     match (left, right) {
         (
@@ -186,8 +186,8 @@ fn is_fresh(f: &Formula) -> bool
 }
 
 /// Whether `right` is a new whole points-to after an update.
-pub fn is_allocated(right: &Formula) -> bool
-    ensures { IsTrue result ↔ IsAllocated right.now }
+pub fn is_pts_new(right: &Formula) -> bool
+    ensures { IsTrue result ↔ IsPtsNew right.now }
 {
     match right {
         Formula::Upd(f) => match f.get() {
@@ -200,10 +200,10 @@ pub fn is_allocated(right: &Formula) -> bool
 
 /// Whether `body` is the body of the predicate that `call` names, with the call's arguments.
 #[tactic(auto, using(crate::proofs::Computed::body_scoped, crate::proofs::Computed::body_within, crate::proofs::Computed::fit_call, crate::proofs::Computed::no_call, crate::proofs::Computed::folded))]
-pub fn is_folded(preds: &Preds, body: &Formula, call: &Formula) -> bool
+pub fn is_fold(preds: &Preds, body: &Formula, call: &Formula) -> bool
     requires bodies { HasFitBodies preds.now }
     requires call { CallsFit preds.now.list call.now }
-    ensures { IsTrue result ↔ IsFolded preds.now body.now call.now }
+    ensures { IsTrue result ↔ IsFold preds.now body.now call.now }
 {
     match call {
         Formula::Call { pred, args } => match preds.list.get(*pred as usize) {

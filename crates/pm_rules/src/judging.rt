@@ -9,15 +9,13 @@ use crate::conditions::{
     has_arguments, has_bracket, has_premises, has_shape, has_variables, rule_number,
 };
 use crate::given::in_order;
-use crate::rules::{Entail, Rule, Unmet};
+use crate::rules::{Condition, Entail, Rule, Unmet};
 use pm_logic::Preds;
 
 /// Whether `rule` leads from the premises, which are those of `first` and `second` that are there, in this order, to
 /// `conclusion` under the table `preds`. It takes no memory.
 ///
-/// The error names the rule and the first condition of its row that is unmet: 1, how many premises there are; 2, their
-/// variables; 3, whether an instance has a term for each variable of its premise; 4, the shapes, where a letter stands for
-/// one formula throughout; 5, what the row asks besides.
+/// The error names the rule and the first condition of its row that is unmet.
 ///
 /// Each formula is scoped in the table and in its entailment's variables, a rule's template in one variable more than the
 /// conclusion has, and each body of the table in its arity. Each such number is, with the formula's depth, at most `BOUND`.
@@ -36,25 +34,25 @@ pub fn rule_ok(
     ensures decides { Decides preds.now rule.now (premises (option_copied first.entry) (option_copied second.entry)) conclusion.now result }
 {
     let number = rule_number(rule);
-    let unmet = |condition: u8| Unmet {
+    let unmet = |condition: Condition| Unmet {
         rule: number,
         condition,
     };
     let ps = in_order(first, second);
     if !has_premises(rule, ps) {
-        return Err(unmet(1));
+        return Err(unmet(Condition::Premises));
     }
     if !has_variables(rule, ps, conclusion) {
-        return Err(unmet(2));
+        return Err(unmet(Condition::Variables));
     }
     if !has_arguments(rule, ps) {
-        return Err(unmet(3));
+        return Err(unmet(Condition::Arguments));
     }
     if !has_shape(preds, rule, ps, conclusion) {
-        return Err(unmet(4));
+        return Err(unmet(Condition::Shape));
     }
     if !has_bracket(rule, conclusion) {
-        return Err(unmet(5));
+        return Err(unmet(Condition::Bracket));
     }
     Ok(())
 }

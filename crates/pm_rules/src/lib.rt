@@ -19,4 +19,4 @@ mod table;
 pub use conditions::premise_count;
 pub use judging::rule_ok;
 pub use pattern::{Binary, Unary};
-pub use rules::{Entail, Rule, Unmet};
+pub use rules::{Condition, Entail, Rule, Unmet};

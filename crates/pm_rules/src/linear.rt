@@ -1,7 +1,7 @@
 //! Facts as a linear rule has them, and its certificates.
 
 ghost use Rattle.std.specs.Prelude.{◌≡◌, ◌↔◌, IsTrue};
-ghost use Rattle.pm_rules.specs.Equations.{IsFacts, IsOfFacts};
+ghost use Rattle.pm_rules.specs.Equations.{IsFacts, IsLinear};
 
 use pm_logic::{Formula, Pure};
 
@@ -19,8 +19,8 @@ fn is_facts(p: &Pure) -> bool
 }
 
 /// Whether the sides are facts and a pure formula.
-pub fn is_of_facts(left: &Formula, right: &Formula) -> bool
-    ensures { IsTrue result ↔ IsOfFacts left.now right.now }
+pub fn is_linear(left: &Formula, right: &Formula) -> bool
+    ensures { IsTrue result ↔ IsLinear left.now right.now }
 {
     match (left, right) {
         (Formula::Pure(p), Formula::Pure(_)) => is_facts(p),

@@ -1,5 +1,7 @@
 //! Entailments, rules and what is answered of them.
 
+ghost use Rattle.std.specs.Prelude.{◌≡◌};
+
 use pm_logic::{Formula, List, Term};
 
 /// With `vars` variables, `left` entails `right`.
@@ -86,11 +88,43 @@ pub enum Rule {
     Timeless,
 }
 
-/// The number of a rule, and the first condition of its row that is unmet, 1 to 5.
+/// What the row of a rule asks, in the order in which it is tested.
+#[derive(Clone, Copy, Debug, PartialEq, Eq)]
+pub enum Condition {
+    /// There are as many premises as the row has.
+    Premises,
+    /// They have the row's number of variables.
+    Variables,
+    /// An instance has a term for each variable of its premise.
+    Arguments,
+    /// Premises and conclusion have the row's shapes, where a letter stands for one formula throughout.
+    Shape,
+    /// What the row asks besides holds.
+    Bracket,
+}
+
+impl Condition {
+    ghost use Rattle.pm_rules.specs.Rules.{condition_number};
+
+    /// The number that is printed for the condition, from 1.
+    pub fn number(self) -> u8
+        ensures { result ≡ condition_number self }
+    {
+        match self {
+            Condition::Premises => 1,
+            Condition::Variables => 2,
+            Condition::Arguments => 3,
+            Condition::Shape => 4,
+            Condition::Bracket => 5,
+        }
+    }
+}
+
+/// The number of a rule, and the first condition of its row that is unmet.
 #[derive(Clone, Copy, Debug, PartialEq, Eq)]
 pub struct Unmet {
     pub rule: u8,
-    pub condition: u8,
+    pub condition: Condition,
 }
 
 // Written out, since a contract then sees one call where a value is let go, and not the layout of the rule.

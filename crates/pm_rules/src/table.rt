@@ -1,8 +1,8 @@
 //! The rule table.
 
 ghost use Rattle.std.specs.Prelude.{◌≡◌};
-ghost use Rattle.pm_rules.specs.Rows.{row};
-ghost use Rattle.pm_rules.specs.Read.{row_of};
+ghost use Rattle.pm_rules.specs.Rows.{frame_for};
+ghost use Rattle.pm_rules.specs.Read.{frame_of};
 
 use crate::pattern::{Binary, Letter, Pattern, PureLetter, PurePattern, Sides, Unary};
 use crate::rules::Rule;
@@ -16,7 +16,7 @@ pub enum Premises {
 }
 
 /// A row of the table, with its number. All-introduction and exists-elimination have a shifted letter and one variable
-/// more in the premise. What a row with computed formulas asks is told elsewhere.
+/// more in the premise. Where formulas are computed, no static data tells them, but a function for each rule.
 #[derive(Clone, Copy)]
 pub enum Row {
     Shapes {
@@ -293,7 +293,7 @@ static TIMELESS: Row = plain!(67, later!(P) => or!(later!(pure!(PurePattern::Fal
 
 /// The rule's row.
 pub fn row_for(rule: &Rule) -> &'static Row
-    ensures { row_of result.now ≡ row rule.now }
+    ensures { frame_of result.now ≡ frame_for rule.now }
 {
     match rule {
         Rule::Refl => &REFL,

@@ -3,6 +3,7 @@ use Rattle.std.proofs.Common.{◌≡◌, ◌⊎◌, inl, inr, ℕ, ◌+◌, ◌-
 use Rattle.std.specs.Prelude.{IsTrue, IfOk, is_some}
 use Rattle.std.specs.Bool.{OnTrue}
 use Rattle.std.specs.Str.{bytes_eq}
+use Rattle.pm_logic.specs.declared.limits.TheConstants.{MAX_LEMMAS, MAX_VARIABLES}
 use Rattle.pm_logic.specs.declared.formula.Formula.{Formula}
 use Rattle.pm_logic.specs.declared.formula.Pred.{Pred}
 use Rattle.pm_logic.specs.Size.{depth_of}
@@ -16,8 +17,10 @@ use Rattle.pm_derive.specs.Stating.{IsNew, States}
 use Rattle.pm_goal.specs.declared.goal.Goal.{Goal}
 use Rattle.pm_script.specs.declared.sentence.Sentence.{Sentence}
 use Rattle.pm_script.specs.declared.sentence.Sentence.TheVariants as sentence
-use Rattle.pm_run.specs.declared.row.Row.{Row}
-use Rattle.pm_run.specs.declared.row.Row.TheVariants.{Q1, Q3, Q9}
+use Rattle.pm_script.specs.declared.sentence.Stated.TheVariants as stated
+use Rattle.pm_script.specs.Stating.{stated_of}
+use Rattle.pm_goal.specs.declared.refusal.Row.{Row}
+use Rattle.pm_goal.specs.declared.refusal.Row.TheVariants.{NoOpenProof, GoalsRemain, NoGoalInFocus}
 use Rattle.pm_run.specs.declared.proof.Stage.{Stage}
 use Rattle.pm_run.specs.declared.proof.Stage.TheVariants as stage
 use Rattle.pm_run.specs.declared.proof.Proof.{Proof}
@@ -25,13 +28,14 @@ use Rattle.pm_run.specs.declared.goals.Stepped.TheVariants as stepped
 use Rattle.pm_run.specs.declared.running.Running.{Running}
 use Rattle.pm_run.specs.declared.running.Done.{Done}
 use Rattle.pm_run.specs.declared.running.Done.TheVariants as done
-use Rattle.pm_run.specs.Rows.{Table, no_row, refusal}
+use Rattle.pm_goal.specs.Refusals.{refusal}
+use Rattle.pm_run.specs.Rows.{Table, no_row}
 use Rattle.pm_run.specs.Steps.{Step, step_of, step_name, step_goals}
 use Rattle.pm_run.specs.Stepping.{IsUnder, StageFits, goals_of, introduces, StageStepped, StageIsSmall}
 use Rattle.pm_run.specs.Runs.{OpenProof, State, Answer, moves, refuses, unbuilt, Answers, is_used, opening, predicate_rows, with_predicate, lemma_rows, opened, proved, proof_rows, qed_rows, qed_state, directive_rows, directive_state, goal_rows, new_goals, Does}
 use Rattle.pm_run.specs.Runs as runs
 use Rattle.pm_script.specs.declared.directive.Directive.{Directive}
-use Rattle.pm_run.specs.Keeping.{DirectsIf, KeepsProof, KeepsProofs, IsSayable, Keeps, IsAnswered, IsDone, IsDoing}
+use Rattle.pm_run.specs.Keeping.{DirectsIf, StatesNothing, UsesLastName, KeepsProof, KeepsProofs, IsSayable, Keeps, IsAnswered, IsDone, IsDoing}
 use Rattle.pm_run.proofs.Sounds.{sound_predicate, sound_lemma, sound_qed, sound_step, new_qed, open_provable, names_with_predicate, names_proved}
 
 -- ---- answers
@@ -72,7 +76,7 @@ is_opened r s p e k = go s.proof refl (subst (λ (q : Option Proof). KeepsProofs
 -- ---- predicates
 
 -- no row: not too many parameters
-few_params : (s : State) (name : List ℕ) (params : List (List ℕ)) (body : Formula) → predicate_rows s name params body None → length params ≤ 64
+few_params : (s : State) (name : List ℕ) (params : List (List ℕ)) (body : Formula) → predicate_rows s name params body None → length params ≤ MAX_VARIABLES
 few_params s name params body (inl x) = absurd (let e = x.1 in cc)
 few_params s name params body (inr (a, inl x)) = absurd (let e = x.1 in cc)
 few_params s name params body (inr (a, inr (b, inl x))) = absurd (let e = x.1 in cc)
@@ -80,24 +84,27 @@ few_params s name params body (inr (a, inr (b, inr (c, inl x)))) = absurd (let e
 few_params s name params body (inr (a, inr (b, inr (c, inr (d, inl x))))) = absurd (let e = x.1 in cc)
 few_params s name params body (inr (a, inr (b, inr (c, inr (d, inr (e, rest)))))) = omega (arith, e)
 
-pub predicate_added : (old : Running) (list : List Pred) (names : List (List ℕ)) (s : State) (name : List ℕ) (params : List (List ℕ)) (body : Formula) (count arity : ℕ)
-    → Keeps old s → IsSayable s (sentence.Predicate name params body) → count ≡ length params → arity ≡ min count 65
-    → list ≡ old.preds.list ++ (record { name = name; arity = arity; body = body } ∷ [])
-    → Adds old.names names name
+-- the table has the predicate more, and then its name is used
+pub predicate_added : (old new : Running) (s : State) (name : List ℕ) (params : List (List ℕ)) (body : Formula) (count arity : ℕ)
+    → Keeps old s → IsSayable s (sentence.Predicate name params body) → count ≡ length params → arity ≡ min count (MAX_VARIABLES + 1)
+    → (list : List Pred) → list ≡ old.preds.list ++ (record { name = name; arity = arity; body = body } ∷ [])
+    → UsesLastName (record old { preds = record { list = list } }) new
     → predicate_rows s name params body None
-    → predicate_rows s name params body None × Keeps (record { preds = record { list = list }; names = names; lemmas = old.lemmas; derivation = old.derivation; proof = old.proof }) (with_predicate s name params body)
-predicate_added old list names s name params body count arity k sayable counts arities lists adds rows =
+    → predicate_rows s name params body None × Keeps new (with_predicate s name params body)
+predicate_added old new s name params body count arity k sayable counts arities list lists uses rows =
     let few = few_params s name params body rows in
-    let arity_is : arity ≡ length params = omega (arith, few, counts, arities) in (
+    let arity_is : arity ≡ length params = omega (arith, few, counts, arities) in
+    let used = uses old.preds.list (record { name = name; arity = arity; body = body }) lists in
+    let adds = used.0 in (
       rows,
-      record {
+      subst (λ (r : Running). Keeps r (with_predicate s name params body)) (sym used.1) (record {
         preds_are = lists ∙ ap₂ (λ (ps : List Pred) (n : ℕ). ps ++ (record { name = name; arity = n; body = body } ∷ [])) k.preds_are arity_is;
         names_are = λ n. adds.has n ∙ (ap (λ b. b || bytes_eq n name) (k.names_are n) ∙ sym (names_with_predicate s name params body n));
         lemmas_are = k.lemmas_are;
         states = k.states;
         proof_is = k.proof_is;
         sound = sound_predicate s name params body k.sound sayable rows;
-      },
+      }),
     )
 
 -- ---- lemmas
@@ -123,15 +130,15 @@ lemma_opened old s name statement goal k sayable is rows = (
 
 -- ---- `Qed`
 
-pub qed_refused : (old new : Running) (s : State) (p : Proof) (g : Goal) (d : Done) → Keeps old s → old.proof ≡ Some p → p.stage ≡ stage.Left g → d ≡ done.Refused (refusal Q3 []) → IsAnswered [] (qed_rows s.proof) (qed_state s s.proof) new d
+pub qed_refused : (old new : Running) (s : State) (p : Proof) (g : Goal) (d : Done) → Keeps old s → old.proof ≡ Some p → p.stage ≡ stage.Left g → d ≡ done.Refused (refusal GoalsRemain []) → IsAnswered [] (qed_rows s.proof) (qed_state s s.proof) new d
 qed_refused old new s p g d k e left is =
     let op = is_opened old s p e k in
     let goals : g ∷ [] ≡ op.o.goals = sym (ap goals_of left) ∙ op.keeps.goals_are in
     let some : ¬ (op.o.goals ≡ []) = λ none. absurd (let f : g ∷ [] ≡ [] = goals ∙ none in cc) in
-    refused_is [] (qed_rows s.proof) (qed_state s s.proof) new d Q3 is (subst (λ (o : Option OpenProof). qed_rows o (Some Q3)) (sym op.is) (inl (some, refl)))
+    refused_is [] (qed_rows s.proof) (qed_state s s.proof) new d GoalsRemain is (subst (λ (o : Option OpenProof). qed_rows o (Some GoalsRemain)) (sym op.is) (inl (some, refl)))
 
 pub qed_done : (old : Running) (s : State) (p : Proof) (place : ℕ) (names : List (List ℕ)) (derivation : Derivation) (lemmas : ℕ) (rest : Option Proof)
-    → Keeps old s → old.proof ≡ Some p → p.stage ≡ stage.Closed place → rest ≡ None → lemmas ≡ min (min (old.lemmas + 1) (2 ^ 64 - 1)) 10000
+    → Keeps old s → old.proof ≡ Some p → p.stage ≡ stage.Closed place → rest ≡ None → lemmas ≡ min (min (old.lemmas + 1) (2 ^ 64 - 1)) MAX_LEMMAS
     → ((before : List Statement) → States old.derivation before → IsNew before p.name → States derivation (before ++ (record { name = p.name; formula = p.statement } ∷ [])))
     → Adds old.names names p.name
     → qed_rows s.proof None × Keeps (record { preds = old.preds; names = names; lemmas = lemmas; derivation = derivation; proof = rest }) (qed_state s s.proof)
@@ -186,6 +193,13 @@ module _ (old : Running) (s : State) (p : Proof) (d : Step) (k : Keeps old s) (e
       fits (stage.Left g) f m = m.fits p.statement p.count f
       fits (stage.Closed place) f m = absurd cc
 
+  pub directive_is_refused : (row : Row) → StageStepped p.stage d (stepped.Refused row) → directive_rows s.proof d (Some row)
+  directive_is_refused row refused = subst (λ (x : Option OpenProof). directive_rows x d (Some row)) (sym the_proof.is) (go p.stage refl refused)
+    where
+      go : (u : Stage) → p.stage ≡ u → StageStepped u d (stepped.Refused row) → goal_rows o.goals d (Some row)
+      go (stage.Left g) at m = subst (λ gs. goal_rows gs d (Some row)) (sym (ap goals_of at) ∙ the_proof.keeps.goals_are) m
+      go (stage.Closed place) at m = subst (λ gs. goal_rows gs d (Some row)) (sym (ap goals_of at) ∙ the_proof.keeps.goals_are) (let same : row ≡ NoGoalInFocus = cc in ap Some same)
+
 -- ---- whole sentences
 
 -- a sentence whose table and new state these are
@@ -228,3 +242,33 @@ not_built s x (inr (inr (inl e))) = subst (λ y. Does s y unbuilt) (sym e) refl
 not_built s x (inr (inr (inr (inl e)))) = subst (λ y. Does s y unbuilt) (sym e.1) refl
 not_built s x (inr (inr (inr (inr (inl e))))) = subst (λ y. Does s y unbuilt) (sym e) refl
 not_built s x (inr (inr (inr (inr (inr e))))) = subst (λ y. Does s y unbuilt) (sym e) refl
+
+-- ---- what a sentence states
+
+pub is_predicate : (x : Sentence) (name : List ℕ) (params : List (List ℕ)) (body : Formula) → stated_of x ≡ Ok (stated.Predicate name params body) → x ≡ sentence.Predicate name params body
+unfolding stated_of
+is_predicate (sentence.Predicate m qs b) name params body e = cc
+is_predicate x name params body e = absurd cc
+
+pub is_lemma : (x : Sentence) (name : List ℕ) (statement : Formula) → stated_of x ≡ Ok (stated.Lemma name statement) → x ≡ sentence.Lemma name statement
+unfolding stated_of
+is_lemma (sentence.Lemma m f) name statement e = cc
+is_lemma x name statement e = absurd cc
+
+pub is_other : (x y : Sentence) → stated_of x ≡ Err y → x ≡ y
+unfolding stated_of
+is_other (sentence.Predicate m qs b) y e = absurd cc
+is_other (sentence.Lemma m f) y e = absurd cc
+is_other x y e = cc
+
+pub states_predicate : (name : List ℕ) (params : List (List ℕ)) (body : Formula) → ¬ StatesNothing (sentence.Predicate name params body)
+unfolding stated_of
+states_predicate name params body e = absurd cc
+
+pub states_lemma : (name : List ℕ) (statement : Formula) → ¬ StatesNothing (sentence.Lemma name statement)
+unfolding stated_of
+states_lemma name statement e = absurd cc
+
+pub states_either : (x : Sentence) → ((name : List ℕ) × (params : List (List ℕ)) × (body : Formula) × (x ≡ sentence.Predicate name params body)) ⊎ ((name : List ℕ) × (statement : Formula) × (x ≡ sentence.Lemma name statement)) → ¬ StatesNothing x
+states_either x (inl p) nothing = states_predicate p.0 p.1 p.2 (subst (λ y. StatesNothing y) p.3 nothing)
+states_either x (inr l) nothing = states_lemma l.0 l.1 (subst (λ y. StatesNothing y) l.2 nothing)

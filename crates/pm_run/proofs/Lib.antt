@@ -1,3 +1,4 @@
+pub mod Lasts
 pub mod Steppings
 pub mod RowTests
 pub mod Sounds

@@ -3,6 +3,7 @@ use Rattle.std.proofs.Common.{◌≡◌, ◌⊎◌, inl, inr, ℕ, ◌+◌, ◌�
 use Rattle.std.specs.Prelude.{is_some, reverse, Ok, Err}
 use Rattle.std.proofs.Math.Seq.{drop-length, drop-append_seam}
 use Rattle.std.proofs.lemmas.List.{append-nil, length-map, take_all}
+use Rattle.pm_logic.specs.declared.limits.TheConstants.{MAX_TABLE}
 use Rattle.pm_logic.specs.declared.formula.Formula.{Formula}
 use Rattle.pm_logic.specs.declared.formula.Pred.{Pred}
 use Rattle.pm_check.specs.declared.checked.Statement.{Statement}
@@ -30,7 +31,7 @@ use Rattle.pm_run.specs.declared.proof.Stage.TheVariants as stage
 use Rattle.pm_run.specs.declared.proof.Proof.{Proof}
 use Rattle.pm_run.specs.declared.ran.Ran.{Ran}
 use Rattle.pm_run.specs.declared.ran.Ran.TheVariants as ran
-use Rattle.pm_run.specs.declared.row.Row.TheVariants.{Q3}
+use Rattle.pm_goal.specs.declared.refusal.Row.TheVariants.{GoalsRemain}
 use Rattle.pm_run.specs.declared.running.Running.{Running}
 use Rattle.pm_run.specs.declared.running.Done.{Done}
 use Rattle.pm_run.specs.declared.running.Done.TheVariants as done
@@ -64,7 +65,7 @@ same_open (Some p) None h = absurd h
 pub table_kept : (r : Running) → IsKept r → BeginsTable (arities_of r.preds.list) r.preds.list
 table_kept r k = subst (λ (qs : List Pred). BeginsTable (arities_of qs) qs) (sym k.kept.preds_are) k.kept.sound.table_begins
 
-pub few_preds : (r : Running) → IsKept r → length r.preds.list ≤ 1000000
+pub few_preds : (r : Running) → IsKept r → length r.preds.list ≤ MAX_TABLE
 few_preds r k = let few = (table_kept r k).fit.0 in let l : length (arities_of r.preds.list) ≡ length r.preds.list = length-map r.preds.list (λ (q : Pred). q.arity) in omega (arith, few, l)
 
 -- ---- a sentence
@@ -114,7 +115,7 @@ turn_kept old r new n m k spans left tail span is next kept short leads turn =
 
 -- ---- ends
 
-pub ends_open : (r : Running) (n size : ℕ) → is_some r.proof ≡ true → Ends r n size clean (ran.Refused n size (record { row = Q3; name = None }))
+pub ends_open : (r : Running) (n size : ℕ) → is_some r.proof ≡ true → Ends r n size clean (ran.Refused n size (record { row = GoalsRemain; name = None }))
 ends_open r n size e = λ s k. ends_inside refl (same_open r.proof s.proof k.proof_is ∙ e)
 
 pub ends_clean : (r : Running) (n size : ℕ) (text : List ℕ) → is_some r.proof ≡ false → ((statements : List Statement) → States r.derivation statements → AreOver r.preds statements → IsDerivation text r.preds statements) → Ends r n size clean (ran.Accepted text)

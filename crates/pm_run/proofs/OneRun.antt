@@ -8,8 +8,8 @@ use Rattle.pm_goal.specs.declared.goal.Hyp.{Hyp}
 use Rattle.pm_cutter.specs.Cutting.{Part, cut, rest_of}
 use Rattle.pm_script.specs.declared.sentence.Sentence.{Sentence}
 use Rattle.pm_script.specs.declared.sentence.Sentence.TheVariants as sentence
-use Rattle.pm_run.specs.declared.row.Row.{Row}
-use Rattle.pm_run.specs.declared.row.Refusal.{Refusal}
+use Rattle.pm_goal.specs.declared.refusal.Row.{Row}
+use Rattle.pm_goal.specs.declared.refusal.Refusal.{Refusal}
 use Rattle.pm_run.specs.Rows.{Table, when_large}
 use Rattle.pm_run.specs.Steps.{Step, intro, exact, step_of, step_name, step_rows, sides_of, hyp_of, intro_rows, exact_rows}
 use Rattle.pm_run.specs.Runs.{OpenProof, State, start, Answer, moves, refuses, unbuilt, answer_of, Answers, predicate_rows, with_predicate, lemma_rows, opened, proof_rows, qed_rows, qed_state, goal_rows, directive_rows, directive_state, Directs, Does, Outcome, refused, unreadable, RunsFrom, does_not_read, is_unbuilt, is_refused, goes_on, is_cut_off, ends_inside, ends}

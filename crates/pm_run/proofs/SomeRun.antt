@@ -4,6 +4,7 @@ use Rattle.std.specs.Prelude.{IsTrue, Result, Ok, Err}
 use Rattle.std.specs.Bool.{Decides}
 use Rattle.std.proofs.Math.Dec.{ltb}
 use Rattle.std.proofs.lemmas.Bool.Decides.{Decides-ltb, Decides-not}
+use Rattle.pm_logic.specs.declared.limits.TheConstants.{MAX_HYPOTHESES, MAX_LEMMAS, MAX_LEVELS, MAX_NODES, MAX_PREDICATES, MAX_VARIABLES}
 use Rattle.pm_logic.specs.declared.formula.Formula.{Formula}
 use Rattle.pm_logic.specs.Guard.{CallsBelow}
 use Rattle.pm_logic.specs.Size.{nodes_of, depth_of}
@@ -15,9 +16,10 @@ use Rattle.pm_cutter.specs.Cutting.{Part, cut, rest_of}
 use Rattle.pm_script.specs.declared.sentence.Sentence.{Sentence}
 use Rattle.pm_script.specs.declared.sentence.Sentence.TheVariants as sentence
 use Rattle.pm_script.specs.SentenceReading.{read_sentence}
-use Rattle.pm_run.specs.declared.row.Row.{Row}
-use Rattle.pm_run.specs.declared.row.Row.TheVariants.{I1, I2, N1, N2, B5, Q1, Q2, Q3, Q4, Q7, Q9, X1, X2, X3, X4, X6, X7}
-use Rattle.pm_run.specs.Rows.{Table, when, no_row, always, refusal, formulas, all_nodes, greatest_depth, held, when_large}
+use Rattle.pm_goal.specs.declared.refusal.Row.{Row}
+use Rattle.pm_goal.specs.declared.refusal.Row.TheVariants.{NoHypothesisToIntroduce, ImplicationOverSpatial, NoSuchHypothesis, NameInUse, NotTheConclusion, NoOpenProof, ProofIsOpen, GoalsRemain, NameIsDefined, NotGuarded, NoGoalInFocus, TooManyVariables, TooManyHypotheses, TooManyNodes, TooDeep, TooManyPredicates, TooManyLemmas}
+use Rattle.pm_goal.specs.Refusals.{refusal}
+use Rattle.pm_run.specs.Rows.{Table, when, no_row, always, formulas, all_nodes, greatest_depth, held, when_large}
 use Rattle.pm_run.specs.Steps.{Step, intro, exact, step_of, step_name, step_rows, sides_of, introduced, is_taken, IsBlocked, intro_rows, exact_rows, hyp_of}
 use Rattle.pm_run.specs.Runs.{OpenProof, State, start, is_open, is_used, scope, opening, Answer, moves, refuses, unbuilt, answer_of, Answers, predicate_rows, with_predicate, lemma_rows, opened, proof_rows, qed_rows, qed_state, goal_rows, directive_rows, directive_state, Directs, Does, Outcome, accepted, refused, unreadable, RunsFrom, does_not_read, is_unbuilt, is_refused, goes_on, is_cut_off, ends_inside, ends}
 use Rattle.pm_run.specs.Coming.{RunsAreTotal}
@@ -52,45 +54,45 @@ when_not condition row others r d h = when_answers (¬ condition) row others (no
 
 large_answers : (g : Goal) (others : Table) → HasAnswer others → HasAnswer (when_large g others)
 large_answers g others h =
-    when_below 64 (length g.vars) X1 _ (when_below 64 (held g) X2 _ (when_below 4000 (all_nodes (formulas g)) X3 _ (when_below 200 (greatest_depth (formulas g)) X4 others h)))
+    when_below MAX_VARIABLES (length g.vars) TooManyVariables _ (when_below MAX_HYPOTHESES (held g) TooManyHypotheses _ (when_below MAX_NODES (all_nodes (formulas g)) TooManyNodes _ (when_below MAX_LEVELS (greatest_depth (formulas g)) TooDeep others h)))
 
 predicate_answers : (s : State) (name : List ℕ) (params : List (List ℕ)) (body : Formula) → HasAnswer (predicate_rows s name params body)
 predicate_answers s name params body =
-    when_true (is_open s) Q2 _ (when_true (is_used s name) Q4 _ (when_not (CallsBelow (length s.preds) body) Q7 _ _ (decides_below (length s.preds) body)
-    (when_reached 64 (length s.preds) X6 _ (when_below 64 (length params) X1 _ (when_below 4000 (nodes_of body) X3 _ (when_below 200 (depth_of body) X4 no_row no_row_answers))))))
+    when_true (is_open s) ProofIsOpen _ (when_true (is_used s name) NameIsDefined _ (when_not (CallsBelow (length s.preds) body) NotGuarded _ _ (decides_below (length s.preds) body)
+    (when_reached MAX_PREDICATES (length s.preds) TooManyPredicates _ (when_below MAX_VARIABLES (length params) TooManyVariables _ (when_below MAX_NODES (nodes_of body) TooManyNodes _ (when_below MAX_LEVELS (depth_of body) TooDeep no_row no_row_answers))))))
 
 lemma_answers : (s : State) (name : List ℕ) (f : Formula) → HasAnswer (lemma_rows s name f)
-lemma_answers s name f = when_true (is_open s) Q2 _ (when_true (is_used s name) Q4 _ (when_reached 10000 (length s.lemmas) X7 _ (large_answers (opening f) no_row no_row_answers)))
+lemma_answers s name f = when_true (is_open s) ProofIsOpen _ (when_true (is_used s name) NameIsDefined _ (when_reached MAX_LEMMAS (length s.lemmas) TooManyLemmas _ (large_answers (opening f) no_row no_row_answers)))
 
 qed_answers : (p : Option OpenProof) → HasAnswer (qed_rows p)
-qed_answers None = always_answers Q1
-qed_answers (Some p) = let empty = decides_empty p.goals in when_not (p.goals ≡ []) Q3 no_row empty.0 empty.1 no_row_answers
+qed_answers None = always_answers NoOpenProof
+qed_answers (Some p) = let empty = decides_empty p.goals in when_not (p.goals ≡ []) GoalsRemain no_row empty.0 empty.1 no_row_answers
 
-blocked_answers : (goal : Goal) (implies : Bool) (a : Formula) (others : Table) → HasAnswer others → HasAnswer (when (IsBlocked implies a goal.spats) I2 others)
+blocked_answers : (goal : Goal) (implies : Bool) (a : Formula) (others : Table) → HasAnswer others → HasAnswer (when (IsBlocked implies a goal.spats) ImplicationOverSpatial others)
 blocked_answers goal implies a others h =
     let empty = decides_empty goal.spats in
-    when_answers (IsBlocked implies a goal.spats) I2 others _
+    when_answers (IsBlocked implies a goal.spats) ImplicationOverSpatial others _
     (decides_three implies _ _ (decides_true implies) (Decides-not _ (decides_persistent a)) (Decides-not empty.0 empty.1)) h
 
 intro_answers : (goal : Goal) (name : List ℕ) (sides : Option (Bool × Formula × Formula)) → HasAnswer (intro_rows goal name sides)
-intro_answers goal name None = always_answers I1
+intro_answers goal name None = always_answers NoHypothesisToIntroduce
 intro_answers goal name (Some (implies, a, b)) =
-    blocked_answers goal implies a _ (large_answers (introduced goal name a b) _ (when_true (is_taken goal name) N2 no_row no_row_answers))
+    blocked_answers goal implies a _ (large_answers (introduced goal name a b) _ (when_true (is_taken goal name) NameInUse no_row no_row_answers))
 
 exact_answers : (goal : Goal) (name : List ℕ) (h : Option Hyp) → HasAnswer (exact_rows goal name h)
-exact_answers goal name None = always_answers N1
-exact_answers goal name (Some h) = when_not (h.formula ≡ goal.concl) B5 no_row _ (decides_same h.formula goal.concl) no_row_answers
+exact_answers goal name None = always_answers NoSuchHypothesis
+exact_answers goal name (Some h) = when_not (h.formula ≡ goal.concl) NotTheConclusion no_row _ (decides_same h.formula goal.concl) no_row_answers
 
 step_answers : (goal : Goal) (d : Step) → HasAnswer (step_rows goal d)
 step_answers goal (intro x) = intro_answers goal x (sides_of goal.concl)
 step_answers goal (exact x) = exact_answers goal x (hyp_of goal x)
 
 goal_answers : (gs : List Goal) (d : Step) → HasAnswer (goal_rows gs d)
-goal_answers [] d = always_answers Q9
+goal_answers [] d = always_answers NoGoalInFocus
 goal_answers (g ∷ gs) d = step_answers g d
 
 directive_answers : (p : Option OpenProof) (d : Step) → HasAnswer (directive_rows p d)
-directive_answers None d = always_answers Q1
+directive_answers None d = always_answers NoOpenProof
 directive_answers (Some p) d = goal_answers p.goals d
 
 -- ---- each sentence does something
@@ -109,7 +111,7 @@ does_some : (s : State) (x : Sentence) → DoesSome s x
 unfolding Does
 does_some s (sentence.Predicate name params body) = answered name (predicate_rows s name params body) (with_predicate s name params body) (predicate_answers s name params body)
 does_some s (sentence.Lemma name f) = answered name (lemma_rows s name f) (opened s name f) (lemma_answers s name f)
-does_some s sentence.Proof = answered [] (proof_rows s) s (when_not (IsTrue (is_open s)) Q1 no_row (is_open s) (decides_true (is_open s)) no_row_answers)
+does_some s sentence.Proof = answered [] (proof_rows s) s (when_not (IsTrue (is_open s)) NoOpenProof no_row (is_open s) (decides_true (is_open s)) no_row_answers)
 does_some s sentence.Qed = answered [] (qed_rows s.proof) (qed_state s s.proof) (qed_answers s.proof)
 does_some s (sentence.Directive d) = directed s (step_of d)
 does_some s x = (unbuilt, refl)
@@ -129,7 +131,7 @@ at_reading size left n s p ps (Ok x) e on = let a = does_some s x in at_answer s
 at_reading size left n s p ps (Err f) e on = (unreadable f, does_not_read p e)
 
 at_end : (size : ℕ) (n : ℕ) (s : State) (b : Bool) → is_open s ≡ b → ComesToSome size None n s []
-at_end size n s true e = (refused n size (refusal Q3 []), ends_inside refl e)
+at_end size n s true e = (refused n size (refusal GoalsRemain []), ends_inside refl e)
 at_end size n s false e = (accepted s.preds s.lemmas, ends refl e)
 
 comes_to_some : (size : ℕ) (left : Option ℕ) (n : ℕ) (s : State) (ps : List Part) → ComesToSome size left n s ps

@@ -8,6 +8,7 @@ use Rattle.pm_run.proofs.Decisions.{calls_below, decides_below}
 use Rattle.pm_derive.proofs.Lawful.{tables_are_grown}
 use Rattle.std.specs.List.{AllByRecursion, list_any}
 use Rattle.std.specs.Str.{bytes_eq}
+use Rattle.pm_logic.specs.declared.limits.TheConstants.{MAX_LEVELS, MAX_PREDICATES, MAX_VARIABLES}
 use Rattle.pm_logic.specs.declared.formula.Formula.{Formula}
 use Rattle.pm_logic.specs.declared.formula.Pred.{Pred}
 use Rattle.pm_logic.specs.Guard.{CallsBelow}
@@ -23,7 +24,7 @@ use Rattle.pm_check.proofs.Tables.{table_none, table_more}
 use Rattle.pm_derive.specs.Stating.{IsNew}
 use Rattle.pm_goal.specs.declared.goal.Goal.{Goal}
 use Rattle.pm_script.specs.declared.sentence.Sentence.TheVariants as sentence
-use Rattle.pm_run.specs.declared.row.Row.{Row}
+use Rattle.pm_goal.specs.declared.refusal.Row.{Row}
 use Rattle.pm_run.specs.Runs.{OpenProof, State, start, is_open, is_used, predicate_rows, with_predicate, lemma_rows, opened, with_proof, proved}
 use Rattle.pm_run.specs.Keeping.{IsProvable, ProofIsSound, IsSound, IsSayable}
 
@@ -103,8 +104,8 @@ arity_end : (qs : List Pred) (n : ℕ) → HasArity (arities_of qs ++ n ∷ []) 
 arity_end [] n = refl
 arity_end (x ∷ qs) n = arity_end qs n
 
-fit_end : (qs : List Pred) (n : ℕ) → AritiesFit (arities_of qs) → length qs < 64 → n ≤ 64 → AritiesFit (arities_of qs ++ n ∷ [])
-fit_end qs n fit few small = (let l : length (arities_of qs ++ n ∷ []) ≡ suc (length qs) = length_end qs n in omega (arith, l, few), all_end (λ (a : ℕ). a ≤ 64) (arities_of qs) n fit.1 small)
+fit_end : (qs : List Pred) (n : ℕ) → AritiesFit (arities_of qs) → length qs < MAX_PREDICATES → n ≤ MAX_VARIABLES → AritiesFit (arities_of qs ++ n ∷ [])
+fit_end qs n fit few small = (let l : length (arities_of qs ++ n ∷ []) ≡ suc (length qs) = length_end qs n in omega (arith, l, few), all_end (λ (a : ℕ). a ≤ MAX_VARIABLES) (arities_of qs) n fit.1 small)
 
 -- ---- states
 
@@ -120,10 +121,10 @@ defined_fits s name params body sayable unused = record {
   named = sayable.0;
   new = ap not (taken_by s.preds name ∙ (neither (list_any (λ (q : Pred). bytes_eq q.name name) s.preds) (list_any (λ (l : Statement). bytes_eq l.name name) s.lemmas) unused).0);
   arity = arity_end s.preds (length params);
-  body = record { in_range = sayable.1; levels = let d : depth_of body ≤ 200 = sayable.2 in omega (arith, d) };
+  body = record { in_range = sayable.1; levels = let d : depth_of body ≤ MAX_LEVELS = sayable.2 in omega (arith, d) };
 }
 
-with_defined : (s : State) (name : List ℕ) (params : List (List ℕ)) (body : Formula) → IsSound s → IsSayable s (sentence.Predicate name params body) → ¬ IsTrue (is_open s) → ¬ IsTrue (is_used s name) → CallsBelow (length s.preds) body → length s.preds < 64 → length params ≤ 64 → IsSound (with_predicate s name params body)
+with_defined : (s : State) (name : List ℕ) (params : List (List ℕ)) (body : Formula) → IsSound s → IsSayable s (sentence.Predicate name params body) → ¬ IsTrue (is_open s) → ¬ IsTrue (is_used s name) → CallsBelow (length s.preds) body → length s.preds < MAX_PREDICATES → length params ≤ MAX_VARIABLES → IsSound (with_predicate s name params body)
 with_defined s name params body sound sayable closed unused below few small =
     let fit : AritiesFit (arities_of s.preds ++ length params ∷ []) = fit_end s.preds (length params) sound.table_begins.fit few small in
     let longer : BeginsTable (arities_of s.preds ++ length params ∷ []) s.preds = begins_more (arities_of s.preds) (length params ∷ []) s.preds fit sound.table_begins in
@@ -177,7 +178,7 @@ stated : (ls : List Statement) (name : List ℕ) → is_stated (map (λ (l : Sta
 stated [] name = refl
 stated (l ∷ ls) name = ap (λ b. b || is_stated (map (λ (l : Statement). l.name) ls) name) (turned name l.name) ∙ ap (λ b. bytes_eq l.name name || b) (stated ls name)
 
-pub new_qed : (s : State) (p : OpenProof) → s.proof ≡ Some p → IsSound s → IsNew s.lemmas p.name × IsTrue (is_name p.name) × (depth_of p.statement ≤ 200)
+pub new_qed : (s : State) (p : OpenProof) → s.proof ≡ Some p → IsSound s → IsNew s.lemmas p.name × IsTrue (is_name p.name) × (depth_of p.statement ≤ MAX_LEVELS)
 new_qed s p e sound =
     let h : IsProvable s p.name p.statement = open_provable s p e sound in
     (stated s.lemmas p.name ∙ or_other (list_any (λ (q : Pred). bytes_eq q.name p.name) s.preds) (list_any (λ (l : Statement). bytes_eq l.name p.name) s.lemmas) h.new, h.named, h.shallow)

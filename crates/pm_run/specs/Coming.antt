@@ -1,5 +1,6 @@
 -- What a script comes to, with what is written for it.
 use Rattle.std.specs.Prelude.{◌≡◌, ℕ, List}
+use Rattle.pm_logic.specs.declared.limits.TheConstants.{MAX_SCRIPT}
 use Rattle.pm_logic.specs.declared.formula.Preds.{Preds}
 use Rattle.pm_check.specs.declared.checked.Statement.{Statement}
 use Rattle.pm_check.specs.Derivation.{IsDerivation}
@@ -9,7 +10,7 @@ use Rattle.pm_run.specs.Runs.{Outcome, accepted, refused, unreadable, RunsTo}
 
 -- the longest script
 abbrev pub limit : ℕ
-limit = 16777216
+limit = MAX_SCRIPT
 
 -- nothing is refused, and the text is a derivation of exactly the lemmas, over exactly the predicates
 pub record Proves (bytes text : List ℕ) : Type 0 where

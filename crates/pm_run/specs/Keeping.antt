@@ -1,5 +1,6 @@
 -- What a running script keeps, against the state of its run.
 use Rattle.std.specs.Prelude.{◌≡◌, ℕ, ◌-◌, ◌^◌, min, ◌≤◌, Bool, false, IsTrue, is_some, List, [], ◌∷◌, ◌++◌, length, Option, Some, None, Result, Ok, Err}
+use Rattle.pm_logic.specs.declared.limits.TheConstants.{MAX_LEMMAS, MAX_LEVELS}
 use Rattle.pm_logic.specs.declared.formula.Formula.{Formula}
 use Rattle.pm_logic.specs.declared.formula.Pred.{Pred}
 use Rattle.pm_logic.specs.declared.formula.Preds.{Preds}
@@ -9,14 +10,16 @@ use Rattle.pm_names.specs.Names.{is_name}
 use Rattle.pm_dtext.specs.Ranges.{InRange}
 use Rattle.pm_dtext.specs.Texts.{arities_of}
 use Rattle.pm_check.specs.declared.checked.Statement.{Statement}
-use Rattle.pm_name_sets.specs.Sets.{has}
+use Rattle.pm_name_sets.specs.Sets.{has, Adds}
 use Rattle.pm_check.specs.Table.{BeginsTable}
 use Rattle.pm_derive.specs.Stating.{AreOver, States}
 use Rattle.pm_script.specs.declared.sentence.Sentence.{Sentence}
 use Rattle.pm_script.specs.declared.sentence.Sentence.TheVariants as sentence
-use Rattle.pm_run.specs.declared.row.Row.{Row}
-use Rattle.pm_run.specs.declared.row.Refusal.{Refusal}
-use Rattle.pm_run.specs.Rows.{Table, refusal}
+use Rattle.pm_script.specs.Stating.{stated_of}
+use Rattle.pm_goal.specs.declared.refusal.Row.{Row}
+use Rattle.pm_goal.specs.declared.refusal.Refusal.{Refusal}
+use Rattle.pm_goal.specs.Refusals.{refusal}
+use Rattle.pm_run.specs.Rows.{Table}
 use Rattle.pm_run.specs.declared.proof.Proof.{Proof}
 use Rattle.pm_run.specs.declared.running.Running.{Running}
 use Rattle.pm_run.specs.declared.running.Done.{Done}
@@ -49,7 +52,7 @@ pub record IsProvable (s : State) (name : List ℕ) (statement : Formula) : Type
   pub named : IsTrue (is_name name)
   pub new : is_used s name ≡ false
   pub over : InRange (arities_of s.preds) 0 statement
-  pub shallow : depth_of statement ≤ 200
+  pub shallow : depth_of statement ≤ MAX_LEVELS
 
 abbrev pub ProofIsSound : State → Option OpenProof → Type 0
 ProofIsSound s None = Unit {0}
@@ -63,7 +66,7 @@ pub record IsSound (s : State) : Type 0 where
 pub record Keeps (r : Running) (s : State) : Type 0 where
   pub preds_are : r.preds.list ≡ s.preds
   pub names_are : (name : List ℕ) → has r.names name ≡ is_used s name
-  pub lemmas_are : r.lemmas ≡ min (length s.lemmas) 10000
+  pub lemmas_are : r.lemmas ≡ min (length s.lemmas) MAX_LEMMAS
   pub states : States r.derivation s.lemmas
   pub proof_is : KeepsProofs r.proof s.proof
   pub sound : IsSound s
@@ -72,8 +75,8 @@ pub record Keeps (r : Running) (s : State) : Type 0 where
 
 -- what reading tells of a sentence
 abbrev pub IsSayable : State → Sentence → Type 0
-IsSayable s (sentence.Predicate name params body) = IsTrue (is_name name) × InRange (arities_of s.preds ++ (length params ∷ [])) (length params) body × (depth_of body ≤ 200)
-IsSayable s (sentence.Lemma name statement) = IsTrue (is_name name) × InRange (arities_of s.preds) 0 statement × (depth_of statement ≤ 200)
+IsSayable s (sentence.Predicate name params body) = IsTrue (is_name name) × InRange (arities_of s.preds ++ (length params ∷ [])) (length params) body × (depth_of body ≤ MAX_LEVELS)
+IsSayable s (sentence.Lemma name statement) = IsTrue (is_name name) × InRange (arities_of s.preds) 0 statement × (depth_of statement ≤ MAX_LEVELS)
 IsSayable s x = Unit {0}
 
 -- ---- what the code of a sentence answers, behind the table's rows
@@ -104,9 +107,17 @@ pub record IsKept (r : Running) : Type 0 where
 abbrev pub PredicateRow : Running → Bool → (count all deepest : ℕ) → Option Row → Type 0
 PredicateRow r used count all deepest row = (s : State) (q : Pred) (name : List ℕ) (params : List (List ℕ)) → r.preds.list ≡ s.preds ++ q ∷ [] → is_some r.proof ≡ is_open s → used ≡ is_used s name → count ≡ length params → all ≡ min (nodes_of q.body) (2 ^ 64 - 1) → deepest ≡ min (depth_of q.body) (2 ^ 32 - 1) → predicate_rows s name params q.body row
 
+-- the last predicate is taken away again, and the refusal is about its name
+abbrev pub TakesBack : Running → Row → Running → Done → Type 0
+TakesBack old row new d = (before : List Pred) (last : Pred) → old.preds.list ≡ before ++ last ∷ [] → (d ≡ done.Refused (refusal row last.name)) × (new ≡ record old { preds = record { list = before } })
+
+-- the name of the last predicate is used from now on
+abbrev pub UsesLastName : Running → Running → Type 0
+UsesLastName old new = (before : List Pred) (last : Pred) → old.preds.list ≡ before ++ last ∷ [] → Adds old.names new.names last.name × (new ≡ record old { names = new.names })
+
 -- of a lemma
 abbrev pub LemmaRow : Running → Bool → Goal → Option Row → Type 0
-LemmaRow r used goal row = (s : State) (name : List ℕ) (statement : Formula) → goal ≡ opening statement → is_some r.proof ≡ is_open s → used ≡ is_used s name → r.lemmas ≡ min (length s.lemmas) 10000 → lemma_rows s name statement row
+LemmaRow r used goal row = (s : State) (name : List ℕ) (statement : Formula) → goal ≡ opening statement → is_some r.proof ≡ is_open s → used ≡ is_used s name → r.lemmas ≡ min (length s.lemmas) MAX_LEMMAS → lemma_rows s name statement row
 
 -- ---- what the code of each sentence answers, whatever state is kept
 
@@ -130,6 +141,10 @@ DirectsIf old None new d = d ≡ done.Unbuilt
 DirectsIf old (Some step) new d = Directs old step new d
 
 -- ---- whole sentences
+
+-- it states neither a predicate nor a lemma
+abbrev pub StatesNothing : Sentence → Type 0
+StatesNothing x = stated_of x ≡ Err x
 
 abbrev pub DoesSentence : Running → Sentence → Running → Done → Type 0
 DoesSentence old x new d = (s : State) → Keeps old s → IsSayable s x → IsDoing s x new d

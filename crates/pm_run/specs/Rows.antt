@@ -1,12 +1,12 @@
 -- Tables of rows: the first whose condition holds is the answer.
-use Rattle.std.specs.Prelude.{◌≡◌, ◌⊎◌, ℕ, ◌+◌, ◌<◌, ◌≤◌, Bool, true, false, if◌then◌else◌, List, [], ◌∷◌, ◌++◌, length, Option, Some, None, max}
+use Rattle.std.specs.Prelude.{◌≡◌, ◌⊎◌, ℕ, ◌+◌, ◌<◌, ◌≤◌, Bool, true, false, if◌then◌else◌, List, [], ◌∷◌, ◌++◌, length, Option, Some, None, max, nat_lt}
+use Rattle.pm_logic.specs.declared.limits.TheConstants.{MAX_HYPOTHESES, MAX_LEVELS, MAX_NODES, MAX_VARIABLES}
 use Rattle.pm_logic.specs.declared.formula.Formula.{Formula}
 use Rattle.pm_logic.specs.Size.{nodes_of, depth_of}
 use Rattle.pm_goal.specs.declared.goal.Goal.{Goal}
 use Rattle.pm_goal.specs.Left.{facts, hyps}
-use Rattle.pm_run.specs.declared.row.Row.{Row}
-use Rattle.pm_run.specs.declared.row.Row.TheVariants.{N1, N2, Q4, Q7, X1, X2, X3, X4}
-use Rattle.pm_run.specs.declared.row.Refusal.{Refusal}
+use Rattle.pm_goal.specs.declared.refusal.Row.{Row}
+use Rattle.pm_goal.specs.declared.refusal.Row.TheVariants.{TooManyVariables, TooManyHypotheses, TooManyNodes, TooDeep}
 
 -- what a table answers: a row, or none
 abbrev pub Table : Type 1
@@ -25,24 +25,11 @@ no_row answer = answer ≡ None
 abbrev pub always : Row → Table
 always row answer = answer ≡ Some row
 
--- ---- what a refusal names
-
--- whether a refusal by the row names the name in question
-abbrev pub gives_name : Row → Bool
-gives_name N1 = true
-gives_name N2 = true
-gives_name Q4 = true
-gives_name Q7 = true
-gives_name _ = false
-
-abbrev pub name_if : Bool → List ℕ → Option (List ℕ)
-name_if true name = Some name
-name_if false name = None
-
-abbrev pub refusal : Row → List ℕ → Refusal
-refusal row name = record { row = row; name = name_if (gives_name row) name }
-
 -- ---- how large a goal may be
+
+-- the row for so many hypotheses, of so many nodes with the conclusion and so deep, and else what others answer
+abbrev pub size_row : (count all deepest : ℕ) → Option Row → Option Row
+size_row count all deepest others = row_if (nat_lt MAX_HYPOTHESES count) TooManyHypotheses (row_if (nat_lt MAX_NODES all) TooManyNodes (row_if (nat_lt MAX_LEVELS deepest) TooDeep others))
 
 -- the formulas of a goal
 abbrev pub formulas : Goal → List Formula
@@ -62,8 +49,8 @@ held goal = length goal.pures + (length goal.ints + length goal.spats)
 
 abbrev pub when_large : Goal → Table → Table
 when_large goal others =
-    when (64 < length goal.vars) X1
-    (when (64 < held goal) X2
-    (when (4000 < all_nodes (formulas goal)) X3
-    (when (200 < greatest_depth (formulas goal)) X4
+    when (MAX_VARIABLES < length goal.vars) TooManyVariables
+    (when (MAX_HYPOTHESES < held goal) TooManyHypotheses
+    (when (MAX_NODES < all_nodes (formulas goal)) TooManyNodes
+    (when (MAX_LEVELS < greatest_depth (formulas goal)) TooDeep
     others)))

@@ -2,6 +2,7 @@
 use Rattle.std.specs.Prelude.{◌≡◌, ℕ, ◌+◌, ◌<◌, ◌≤◌, Bool, true, false, ◌||◌, is_some, IsTrue, List, [], ◌∷◌, ◌++◌, length, reverse, Option, Some, None, Ok, Err}
 use Rattle.std.specs.List.{list_any}
 use Rattle.std.specs.Str.{bytes_eq}
+use Rattle.pm_logic.specs.declared.limits.TheConstants.{MAX_LEMMAS, MAX_LEVELS, MAX_NODES, MAX_PREDICATES, MAX_VARIABLES}
 use Rattle.pm_logic.specs.declared.formula.Formula.{Formula}
 use Rattle.pm_logic.specs.declared.formula.Pred.{Pred}
 use Rattle.pm_logic.specs.Guard.{CallsBelow}
@@ -15,10 +16,11 @@ use Rattle.pm_cutter.specs.Cutting.{Part, cut, rest_of}
 use Rattle.pm_script.specs.declared.sentence.Sentence.{Sentence}
 use Rattle.pm_script.specs.declared.sentence.Sentence.TheVariants as sentence
 use Rattle.pm_script.specs.SentenceReading.{read_sentence}
-use Rattle.pm_run.specs.declared.row.Row.{Row}
-use Rattle.pm_run.specs.declared.row.Row.TheVariants.{Q1, Q2, Q3, Q4, Q7, Q9, X1, X3, X4, X6, X7}
-use Rattle.pm_run.specs.declared.row.Refusal.{Refusal}
-use Rattle.pm_run.specs.Rows.{Table, when, no_row, always, refusal, when_large}
+use Rattle.pm_goal.specs.declared.refusal.Row.{Row}
+use Rattle.pm_goal.specs.declared.refusal.Row.TheVariants.{NoOpenProof, ProofIsOpen, GoalsRemain, NameIsDefined, NotGuarded, NoGoalInFocus, TooManyVariables, TooManyNodes, TooDeep, TooManyPredicates, TooManyLemmas}
+use Rattle.pm_goal.specs.declared.refusal.Refusal.{Refusal}
+use Rattle.pm_goal.specs.Refusals.{refusal}
+use Rattle.pm_run.specs.Rows.{Table, when, no_row, always, when_large}
 use Rattle.pm_run.specs.Steps.{Step, step_of, step_name, step_rows, step_goals}
 
 -- ---- states
@@ -78,13 +80,13 @@ Answers name table new answer = (row : Option Row) × table row × (answer ≡ a
 
 abbrev pub predicate_rows : State → List ℕ → List (List ℕ) → Formula → Table
 predicate_rows s name params body =
-    when (IsTrue (is_open s)) Q2
-    (when (IsTrue (is_used s name)) Q4
-    (when (¬ CallsBelow (length s.preds) body) Q7
-    (when (64 ≤ length s.preds) X6
-    (when (64 < length params) X1
-    (when (4000 < nodes_of body) X3
-    (when (200 < depth_of body) X4
+    when (IsTrue (is_open s)) ProofIsOpen
+    (when (IsTrue (is_used s name)) NameIsDefined
+    (when (¬ CallsBelow (length s.preds) body) NotGuarded
+    (when (MAX_PREDICATES ≤ length s.preds) TooManyPredicates
+    (when (MAX_VARIABLES < length params) TooManyVariables
+    (when (MAX_NODES < nodes_of body) TooManyNodes
+    (when (MAX_LEVELS < depth_of body) TooDeep
     no_row))))))
 
 abbrev pub with_predicate : State → List ℕ → List (List ℕ) → Formula → State
@@ -92,9 +94,9 @@ with_predicate s name params body = record s { preds = s.preds ++ (record { name
 
 abbrev pub lemma_rows : State → List ℕ → Formula → Table
 lemma_rows s name statement =
-    when (IsTrue (is_open s)) Q2
-    (when (IsTrue (is_used s name)) Q4
-    (when (10000 ≤ length s.lemmas) X7
+    when (IsTrue (is_open s)) ProofIsOpen
+    (when (IsTrue (is_used s name)) NameIsDefined
+    (when (MAX_LEMMAS ≤ length s.lemmas) TooManyLemmas
     (when_large (opening statement)
     no_row)))
 
@@ -109,22 +111,22 @@ abbrev pub proved : State → OpenProof → State
 proved s p = record { preds = s.preds; lemmas = s.lemmas ++ (record { name = p.name; formula = p.statement } ∷ []); proof = None }
 
 abbrev pub proof_rows : State → Table
-proof_rows s = when (¬ IsTrue (is_open s)) Q1 no_row
+proof_rows s = when (¬ IsTrue (is_open s)) NoOpenProof no_row
 
 abbrev pub qed_rows : Option OpenProof → Table
-qed_rows None = always Q1
-qed_rows (Some p) = when (¬ (p.goals ≡ [])) Q3 no_row
+qed_rows None = always NoOpenProof
+qed_rows (Some p) = when (¬ (p.goals ≡ [])) GoalsRemain no_row
 
 abbrev pub qed_state : State → Option OpenProof → State
 qed_state s None = s
 qed_state s (Some p) = proved s p
 
 abbrev pub goal_rows : List Goal → Step → Table
-goal_rows [] step = always Q9
+goal_rows [] step = always NoGoalInFocus
 goal_rows (g ∷ gs) step = step_rows g step
 
 abbrev pub directive_rows : Option OpenProof → Step → Table
-directive_rows None step = always Q1
+directive_rows None step = always NoOpenProof
 directive_rows (Some p) step = goal_rows p.goals step
 
 -- the first goal is replaced
@@ -163,7 +165,7 @@ pub data RunsFrom (size : ℕ) (rest : Option ℕ) : ℕ → State → List Part
   is_refused : {n : ℕ} {s : State} (p : Part) {ps : List Part} (x : Sentence) {r : Refusal} → read_sentence p.offset s.preds (scope s) p.text ≡ Ok x → Does s x (refuses r) → RunsFrom size rest n s (p ∷ ps) (refused n p.offset r)
   goes_on : {n : ℕ} {s : State} (p : Part) {ps : List Part} (x : Sentence) (new : State) {o : Outcome} → read_sentence p.offset s.preds (scope s) p.text ≡ Ok x → Does s x (moves new) → RunsFrom size rest (n + 1) new ps o → RunsFrom size rest n s (p ∷ ps) o
   is_cut_off : {n : ℕ} {s : State} (at : ℕ) → rest ≡ Some at → RunsFrom size rest n s [] (unreadable (Unexpected at))
-  ends_inside : {n : ℕ} {s : State} → rest ≡ None → is_open s ≡ true → RunsFrom size rest n s [] (refused n size (refusal Q3 []))
+  ends_inside : {n : ℕ} {s : State} → rest ≡ None → is_open s ≡ true → RunsFrom size rest n s [] (refused n size (refusal GoalsRemain []))
   ends : {n : ℕ} {s : State} → rest ≡ None → is_open s ≡ false → RunsFrom size rest n s [] (accepted s.preds s.lemmas)
 
 -- what comes of a script

@@ -1,5 +1,7 @@
 -- What the code of a directive answers.
-use Rattle.std.specs.Prelude.{◌≡◌, ℕ, ◌+◌, Bool, IsTrue, ◌<◌, ◌≤◌, List, [], ◌∷◌, length, slice_get, Option, Some, None}
+use Rattle.std.specs.Prelude.{◌≡◌, ℕ, ◌+◌, Bool, IsTrue, ◌<◌, ◌≤◌, List, [], ◌∷◌, length, slice_get, position, Option, Some, None}
+use Rattle.std.specs.Str.{bytes_eq}
+use Rattle.pm_logic.specs.declared.limits.TheConstants.{MAX_HYPOTHESES}
 use Rattle.pm_logic.specs.declared.formula.Formula.{Formula}
 use Rattle.pm_derive.specs.Sides.{sides, IsProvedBy}
 use Rattle.pm_goal.specs.declared.goal.Goal.{Goal}
@@ -10,7 +12,7 @@ use Rattle.pm_run.specs.declared.step.Step.{Step as ReadStep}
 use Rattle.pm_run.specs.declared.step.Step.TheVariants as step
 use Rattle.pm_run.specs.declared.goals.Stepped.{Stepped}
 use Rattle.pm_run.specs.declared.goals.Stepped.TheVariants as stepped
-use Rattle.pm_run.specs.declared.row.Row.TheVariants.{I2, N2, Q9}
+use Rattle.pm_goal.specs.declared.refusal.Row.TheVariants.{ImplicationOverSpatial, NameInUse, NoGoalInFocus}
 use Rattle.pm_run.specs.Rows.{Table, when, no_row, when_large}
 use Rattle.pm_run.specs.Steps.{Step, intro, exact, step_rows, step_goals}
 
@@ -20,7 +22,7 @@ pub record HasOnlySpatial (goal : Goal) : Type 0 where
   pub ints : goal.ints ≡ []
 
 abbrev pub HasFew : Goal → Type 0
-HasFew goal = length goal.spats ≤ 64
+HasFew goal = length goal.spats ≤ MAX_HYPOTHESES
 
 -- the goal has the first left sides of the statement as spatial hypotheses and nothing else, and what stands behind them to show
 pub record IsUnder (statement : Formula) (count : ℕ) (goal : Goal) : Type 0 where
@@ -51,13 +53,9 @@ abbrev pub IsStepped : Goal → Step → Stepped → Type 0
 IsStepped goal d (stepped.Moved s) = Moves goal d s
 IsStepped goal d (stepped.Refused row) = step_rows goal d (Some row)
 
--- the rows of an introduction, by what was tested
-abbrev pub tested_rows : Goal → (blocked taken : Bool) → Table
-tested_rows new blocked taken = when (IsTrue blocked) I2 (when_large new (when (IsTrue taken) N2 no_row))
-
-abbrev pub IsTested : Goal → (blocked taken : Bool) → Stepped → Type 0
-IsTested new blocked taken (stepped.Moved s) = (s ≡ stage.Left new) × tested_rows new blocked taken None
-IsTested new blocked taken (stepped.Refused row) = tested_rows new blocked taken (Some row)
+-- no spatial hypothesis has the name
+abbrev pub IsNewHere : Goal → List ℕ → Type 0
+IsNewHere goal name = position (λ h. bytes_eq name h.name) goal.spats ≡ None
 
 -- ---- the directives of code
 
@@ -68,7 +66,7 @@ step_view (step.Exact x) = exact x.now
 -- of a proof that is so far: with no goal left every directive is refused
 abbrev pub StageStepped : Stage → Step → Stepped → Type 0
 StageStepped (stage.Left g) d r = IsStepped g d r
-StageStepped (stage.Closed place) d r = r ≡ stepped.Refused Q9
+StageStepped (stage.Closed place) d r = r ≡ stepped.Refused NoGoalInFocus
 
 abbrev pub StageIsSmall : Stage → Type 0
 StageIsSmall (stage.Left g) = HasFew g × HasOnlySpatial g

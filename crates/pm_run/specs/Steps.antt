@@ -1,4 +1,7 @@
--- What a directive takes a goal to.
+-- What a directive takes a goal to. To build a directive: its rows and its goals here, as a table of rows and a list of goals;
+-- a variant of `Step`, which src/step.rt reads; the function that does it in src/goals.rt, whose contract is `IsStepped`; and
+-- what it adds to a derivation in pm_derive. Its rows of refusal are those of pm_goal. Then `rt check` in pm_run, a test in
+-- pm_tests, and its table and an example in docs/LANGUAGE.md.
 use Rattle.std.specs.Prelude.{◌≡◌, ℕ, nat_lt, ◌&&◌, ◌||◌, ◌==◌, Bool, true, false, is_some, IsTrue, List, [], ◌∷◌, ◌++◌, length, position, slice_get, option_map, Option, Some, None}
 use Rattle.std.specs.List.{list_all}
 use Rattle.std.specs.Str.{bytes_eq}
@@ -13,7 +16,7 @@ use Rattle.pm_patterns.specs.declared.pattern.Pat.{Pat}
 use Rattle.pm_patterns.specs.declared.pattern.Pat.TheVariants as pat
 use Rattle.pm_script.specs.declared.directive.Directive.{Directive}
 use Rattle.pm_script.specs.declared.directive.Directive.TheVariants as directive
-use Rattle.pm_run.specs.declared.row.Row.TheVariants.{I1, I2, N1, N2, B5}
+use Rattle.pm_goal.specs.declared.refusal.Row.TheVariants.{NoHypothesisToIntroduce, ImplicationOverSpatial, NoSuchHypothesis, NameInUse, NotTheConclusion}
 use Rattle.pm_run.specs.Rows.{Table, when, no_row, always, when_large}
 
 -- ---- names
@@ -44,11 +47,11 @@ abbrev pub IsBlocked : Bool → Formula → List Hyp → Type 0
 IsBlocked implies a spats = IsTrue implies × (¬ IsPersistent a) × (¬ (spats ≡ []))
 
 abbrev pub intro_rows : Goal → List ℕ → Option (Bool × Formula × Formula) → Table
-intro_rows goal name None = always I1
+intro_rows goal name None = always NoHypothesisToIntroduce
 intro_rows goal name (Some (implies, a, b)) =
-    when (IsBlocked implies a goal.spats) I2
+    when (IsBlocked implies a goal.spats) ImplicationOverSpatial
     (when_large (introduced goal name a b)
-    (when (IsTrue (is_taken goal name)) N2
+    (when (IsTrue (is_taken goal name)) NameInUse
     no_row))
 
 abbrev pub intro_goals : Goal → List ℕ → Option (Bool × Formula × Formula) → List Goal
@@ -62,11 +65,11 @@ hyp_at hs None = None
 hyp_at hs (Some i) = slice_get hs i
 
 abbrev pub hyp_of : Goal → List ℕ → Option Hyp
-hyp_of goal name = hyp_at goal.spats (position (λ h. bytes_eq h.name name) goal.spats)
+hyp_of goal name = hyp_at goal.spats (position (λ h. bytes_eq name h.name) goal.spats)
 
 abbrev pub exact_rows : Goal → List ℕ → Option Hyp → Table
-exact_rows goal name None = always N1
-exact_rows goal name (Some h) = when (¬ (h.formula ≡ goal.concl)) B5 no_row
+exact_rows goal name None = always NoSuchHypothesis
+exact_rows goal name (Some h) = when (¬ (h.formula ≡ goal.concl)) NotTheConclusion no_row
 
 -- ---- the directives that are built
 

@@ -4,17 +4,19 @@ ghost use Rattle.std.specs.Prelude.{min, ◌≡◌, ◌<◌, ◌≤◌, ◌^◌,
 ghost use Rattle.std.specs.Str.{bytes_eq};
 ghost use Rattle.std.specs.List.{list_all};
 ghost use Rattle.pm_tokens.specs.Characters.{is_digit};
-ghost use Rattle.pm_run.specs.Rows.{row_if, all_nodes, greatest_depth, when_large};
-ghost use Rattle.pm_run.specs.Steps.{is_numbered, is_taken, sides_of, introduced, IsBlocked};
+ghost use Rattle.pm_run.specs.Rows.{row_if, size_row, all_nodes, greatest_depth, when_large};
+ghost use Rattle.pm_run.specs.Steps.{is_numbered, is_taken, sides_of, introduced, IsBlocked, intro_rows};
 ghost use Rattle.pm_run.specs.Steps as steps;
-ghost use Rattle.pm_run.specs.Stepping.{HasFew, HasOnlySpatial, IsTested, IsStepped, StageIsSmall, StageStepped, step_view};
+ghost use Rattle.pm_run.specs.Stepping.{HasFew, HasOnlySpatial, IsNewHere, IsStepped, StageIsSmall, StageStepped, step_view};
 ghost use Rattle.pm_goal.specs.Left.{hyps};
 
 use crate::proof::Stage;
-use crate::row::Row;
 use crate::step::Step;
-use pm_goal::{Goal, Hyp, find};
-use pm_logic::{Formula, Memory, Name, copy, copy_name, depth, nodes, persistent, same};
+use pm_goal::{Ctx, Goal, Hyp, Row, find};
+use pm_logic::{
+    Formula, MAX_HYPOTHESES, MAX_LEVELS, MAX_NODES, Memory, Name, copy, copy_name, depth, nodes,
+    persistent, same,
+};
 use std::alloc::Global;
 
 /// The row, if it holds, and else the row that others answer.
@@ -80,23 +82,42 @@ pub enum Stepped {
 }
 
 /// The nodes of hypotheses together, up to the last value of the type.
-fn hyps_nodes(list: &[Hyp]) -> u64
+fn hyps_nodes(list: &Ctx) -> u64
     ensures { result ≡ min (all_nodes (hyps list.now)) u64.MAX }
 {
-    match list {
-        [] => 0,
-        [h, rest @ ..] => nodes(&h.formula).saturating_add(hyps_nodes(rest)),
+    let mut sum: u64 = 0;
+    let mut i = list.len();
+    while i > 0 {
+        i -= 1;
+        if let Some(formula) = list.formula(i) {
+            sum = nodes(formula).saturating_add(sum);
+        }
     }
+    sum
 }
 
 /// The greatest depth of hypotheses, up to the last value of the type, and 0 where there are none.
-fn hyps_depth(list: &[Hyp]) -> u32
+fn hyps_depth(list: &Ctx) -> u32
     ensures { result ≡ min (greatest_depth (hyps list.now)) u32.MAX }
 {
-    match list {
-        [] => 0,
-        [h, rest @ ..] => depth(&h.formula).max(hyps_depth(rest)),
+    let mut deepest = 0;
+    let mut i = list.len();
+    while i > 0 {
+        i -= 1;
+        if let Some(formula) = list.formula(i) {
+            deepest = depth(formula).max(deepest);
+        }
     }
+    deepest
+}
+
+/// The row for so many hypotheses, of so many nodes with the conclusion and so deep, and else the row that others answer.
+fn size_row(count: usize, all: u64, deepest: u32, others: Option<Row>) -> Option<Row>
+    ensures { result ≡ size_row count all deepest others }
+{
+    let deep = row_if(deepest > MAX_LEVELS, Row::TooDeep, others);
+    let large = row_if(all > MAX_NODES, Row::TooManyNodes, deep);
+    row_if(count > MAX_HYPOTHESES, Row::TooManyHypotheses, large)
 }
 
 /// The row for a goal that is too large, and else the row that others answer.
@@ -104,16 +125,15 @@ pub fn large_row(goal: &Goal, others: Option<Row>) -> Option<Row>
     requires { HasOnlySpatial goal.now }
     ensures { when_large goal.now (λ answer. answer ≡ others) result }
 {
-    let hyps = goal.spats.as_slice();
+    let hyps = &goal.spats;
     let all = hyps_nodes(hyps).saturating_add(nodes(&goal.concl));
     let deepest = hyps_depth(hyps).max(depth(&goal.concl));
-    let deep = row_if(deepest > 200, Row::X4, others);
-    let large = row_if(all > 4_000, Row::X3, deep);
-    row_if(hyps.len() > 64, Row::X2, large)
+    size_row(hyps.len(), all, deepest, others)
 }
 
 /// The goal with a spatial hypothesis more, and this to show.
 fn with_hyp(goal: Goal, name: Name, a: Formula, b: Formula) -> Result<Goal, Memory>
+    requires { IsNewHere goal name }
     ensures { IfOk result (λ new. new ≡ introduced goal name a b) }
 {
     let mut goal = goal;
@@ -123,22 +143,35 @@ fn with_hyp(goal: Goal, name: Name, a: Formula, b: Formula) -> Result<Goal, Memo
 }
 
 /// Whether it is an implication that can't be introduced over these hypotheses.
-fn is_blocked(implies: bool, left: &Formula, hyps: &[Hyp]) -> bool
+fn is_blocked(implies: bool, left: &Formula, hyps: &Ctx) -> bool
     ensures { IsTrue result ↔ IsBlocked implies left.now hyps.now }
 {
-    implies && !persistent(left) && !hyps.is_empty()
+    implies && !persistent(left) && hyps.len() != 0
 }
 
-/// The new goal, or the row that refuses it.
-fn tested(new: Goal, blocked: bool, taken: bool) -> Stepped
-    requires { HasOnlySpatial new }
-    ensures { IsTested new blocked taken result }
+/// The row that refuses to introduce `left` by this name over `right`, if one does.
+fn intro_row(
+    goal: &Goal,
+    name: &Name,
+    implies: bool,
+    left: &Formula,
+    right: &Formula,
+) -> Option<Row>
+    requires few { HasFew goal.now }
+    requires spatial { HasOnlySpatial goal.now }
+    ensures { intro_rows goal.now name.now (Some (implies, left.now, right.now)) result }
 {
-    let row = row_if(taken, Row::N2, None);
-    match row_if(blocked, Row::I2, large_row(&new, row)) {
-        Some(row) => Stepped::Refused(row),
-        None => Stepped::Moved(Stage::Left(new)),
-    }
+    let hyps = &goal.spats;
+    let parts = nodes(left).saturating_add(nodes(right));
+    let all = hyps_nodes(hyps).saturating_add(parts);
+    let deepest = hyps_depth(hyps).max(depth(left).max(depth(right)));
+    let named = row_if(is_taken(goal, name), Row::NameInUse, None);
+    let sized = size_row(hyps.len() + 1, all, deepest, named);
+    row_if(
+        is_blocked(implies, left, hyps),
+        Row::ImplicationOverSpatial,
+        sized,
+    )
 }
 
 /// Makes the left side of the conclusion a hypothesis.
@@ -147,40 +180,34 @@ pub fn intro(alloc: Global, goal: Goal, name: &Name) -> Result<Stepped, Memory>
     requires spatial { HasOnlySpatial goal }
     ensures { IfOk result (IsStepped goal (steps.intro name.now)) }
 {
-    let taken = is_taken(&goal, name);
-    let name = copy_name(alloc, name)?;
     let Some((implies, a, b)) = sides(&goal.concl) else {
-        return Ok(Stepped::Refused(Row::I1));
+        return Ok(Stepped::Refused(Row::NoHypothesisToIntroduce));
     };
-    let blocked = is_blocked(implies, a, goal.spats.as_slice());
+    if let Some(row) = intro_row(&goal, name, implies, a, b) {
+        return Ok(Stepped::Refused(row));
+    }
     let a = copy(alloc, a)?;
     let b = copy(alloc, b)?;
+    let name = copy_name(alloc, name)?;
     let new = with_hyp(goal, name, a, b)?;
-    Ok(tested(new, blocked, taken))
-}
-
-fn hyp_place(hyps: &[Hyp], name: &[u8]) -> Option<usize>
-    ensures place { result ≡ position (λ h. bytes_eq h.name name.now) hyps.now }
-    ensures within { IfSome result (λ i. i < length hyps.now) }
-{
-    hyps.iter().position(|h| h.name.bytes() == name)
+    Ok(Stepped::Moved(Stage::Left(new)))
 }
 
 /// Closes a goal whose conclusion is the hypothesis of this name.
-#[tactic(auto, using(crate::proofs::Steppings::exact_missing, crate::proofs::Steppings::exact_other, crate::proofs::Steppings::exact_closes))]
+#[tactic(auto, using(crate::proofs::Steppings::exact_missing, crate::proofs::Steppings::exact_unseen, crate::proofs::Steppings::exact_other, crate::proofs::Steppings::exact_closes))]
 pub fn exact(goal: &Goal, name: &Name) -> Stepped
     ensures { IsStepped goal.now (steps.exact name.now) result }
 {
-    let hyps = goal.spats.as_slice();
-    match hyp_place(hyps, name.bytes()) {
-        None => Stepped::Refused(Row::N1),
-        Some(place) => {
-            if same(&hyps[place].formula, &goal.concl) {
-                Stepped::Moved(Stage::Closed(place))
-            } else {
-                Stepped::Refused(Row::B5)
-            }
-        }
+    let Some(place) = goal.spats.place(name) else {
+        return Stepped::Refused(Row::NoSuchHypothesis);
+    };
+    let Some(formula) = goal.spats.formula(place) else {
+        return Stepped::Refused(Row::NoSuchHypothesis);
+    };
+    if same(formula, &goal.concl) {
+        Stepped::Moved(Stage::Closed(place))
+    } else {
+        Stepped::Refused(Row::NotTheConclusion)
     }
 }
 
@@ -190,7 +217,7 @@ pub fn step_stage(alloc: Global, stage: Stage, step: Step) -> Result<Stepped, Me
     ensures { IfOk result (StageStepped stage (step_view step.entry)) }
 {
     match stage {
-        Stage::Closed(_) => Ok(Stepped::Refused(Row::Q9)),
+        Stage::Closed(_) => Ok(Stepped::Refused(Row::NoGoalInFocus)),
         Stage::Left(goal) => match step {
             Step::Intro(name) => intro(alloc, goal, name),
             Step::Exact(name) => Ok(exact(&goal, name)),

@@ -5,12 +5,10 @@ mod goals;
 mod laws;
 mod proof;
 mod ran;
-mod row;
 mod running;
 mod script;
 mod step;
 
 pub use laws::{runs_are_one, runs_are_total};
 pub use ran::Ran;
-pub use row::{Refusal, Row};
 pub use script::run_script;

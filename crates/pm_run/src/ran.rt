@@ -1,11 +1,11 @@
 //! What a run comes to.
 
-use crate::row::Refusal;
+use pm_goal::Refusal;
 use pm_logic::Bytes;
 use pm_terms::TextFault;
 
 /// What a script comes to.
-#[derive(Debug, Drop)]
+#[derive(Drop)]
 pub enum Ran {
     /// Every sentence was done and no proof is open: a derivation of the proved lemmas, over the defined predicates.
     Accepted(Bytes),

@@ -1,22 +1,24 @@
 //! A script that is being run.
 
-ghost use Rattle.std.specs.Prelude.{◌≡◌, ◌≤◌, ◌<◌, ◌^◌, not, IfOk, IsTrue, length, is_some};
+ghost use Rattle.std.specs.Prelude.{◌≡◌, ◌≤◌, ◌<◌, ◌^◌, not, IfOk, OnOk, IsTrue, length, is_some};
 ghost use Rattle.pm_name_sets.specs.Sets.{has};
-ghost use Rattle.pm_run.specs.Rows.{refusal};
+ghost use Rattle.pm_goal.specs.Refusals.{refusal};
 ghost use Rattle.pm_run.specs.Runs.{start, opening};
 ghost use Rattle.pm_run.specs.Stepping.{HasOnlySpatial, step_view};
 ghost use Rattle.pm_run.specs.Steps.{step_of};
-ghost use Rattle.pm_run.specs.Keeping.{Keeps, IsKept, PredicateRow, LemmaRow, AddsPredicate, Opens, Begins, Closes, Directs, DirectsIf, DoesSentence};
+ghost use Rattle.pm_run.specs.Keeping.{Keeps, IsKept, TakesBack, UsesLastName, PredicateRow, LemmaRow, AddsPredicate, Opens, Begins, Closes, Directs, DirectsIf, StatesNothing, DoesSentence};
 
 use crate::goals::{Stepped, large_row, row_if, step_stage};
 use crate::proof::{Proof, Stage};
-use crate::row::{Refusal, Row, gives_name};
 use crate::step::{Step, step_of};
 use pm_derive::Derivation;
-use pm_goal::Goal;
-use pm_logic::{Formula, List, Memory, Name, Pred, Preds, copy, copy_name, depth, guarded, nodes};
+use pm_goal::{Ctx, Facts, Goal, Refusal, Row};
+use pm_logic::{
+    Formula, List, MAX_LEMMAS, MAX_LEVELS, MAX_NODES, MAX_PREDICATES, MAX_VARIABLES, Memory, Name,
+    Pred, Preds, copy, copy_name, depth, guarded, nodes,
+};
 use pm_name_sets::NameSet;
-use pm_script::{Directive, Sentence};
+use pm_script::{Directive, Sentence, Stated};
 use std::alloc::Global;
 
 /// What has become of a script so far: its predicates, its proved lemmas, and the proof that is open.
@@ -25,7 +27,7 @@ pub struct Running {
     pub preds: Preds,
     /// The names of predicates and proved lemmas.
     pub names: NameSet,
-    /// How many lemmas are proved, up to the 10,000 that may be.
+    /// How many lemmas are proved, up to those that may be.
     pub lemmas: usize,
     pub derivation: Derivation,
     pub proof: Option<Proof>,
@@ -42,10 +44,22 @@ pub enum Done {
 }
 
 /// A refusal by this row of what is about this name.
-fn refused(alloc: Global, row: Row, name: &Name) -> Result<Done, Memory>
+fn refused(row: Row, name: Name) -> Done
+    ensures { result ≡ Done.Refused (refusal row name) }
+{
+    if row.gives_name() {
+        let name = Some(name);
+        Done::Refused(Refusal { row, name })
+    } else {
+        Done::Refused(Refusal { row, name: None })
+    }
+}
+
+/// A refusal by this row of a directive about this name.
+fn directive_refused(alloc: Global, row: Row, name: &Name) -> Result<Done, Memory>
     ensures { IfOk result (λ d. d ≡ Done.Refused (refusal row name.now)) }
 {
-    if gives_name(row) {
+    if row.gives_name() {
         let name = Some(copy_name(alloc, name)?);
         Ok(Done::Refused(Refusal { row, name }))
     } else {
@@ -60,9 +74,9 @@ fn opening(alloc: Global, statement: &Formula) -> Result<Goal, Memory>
     let concl = copy(alloc, statement)?;
     Ok(Goal {
         vars: List::new(alloc),
-        pures: List::new(alloc),
-        ints: List::new(alloc),
-        spats: List::new(alloc),
+        pures: Facts::new(alloc),
+        ints: Ctx::new(alloc),
+        spats: Ctx::new(alloc),
         concl,
     })
 }
@@ -103,12 +117,43 @@ impl Running {
         ensures { PredicateRow self.now used count all deepest result }
     {
         let last = self.preds.list.len() - 1;
-        let deep = row_if(deepest > 200, Row::X4, None);
-        let large = row_if(all > 4_000, Row::X3, deep);
-        let wide = row_if(count > 64, Row::X1, large);
-        let many = row_if(last >= 64, Row::X6, wide);
-        let free = row_if(!guarded(&self.preds, last as u32), Row::Q7, many);
-        row_if(self.is_open(), Row::Q2, row_if(used, Row::Q4, free))
+        let deep = row_if(deepest > MAX_LEVELS, Row::TooDeep, None);
+        let large = row_if(all > MAX_NODES, Row::TooManyNodes, deep);
+        let wide = row_if(count > MAX_VARIABLES, Row::TooManyVariables, large);
+        let many = row_if(last >= MAX_PREDICATES, Row::TooManyPredicates, wide);
+        let free = row_if(!guarded(&self.preds, last as u32), Row::NotGuarded, many);
+        row_if(
+            self.is_open(),
+            Row::ProofIsOpen,
+            row_if(used, Row::NameIsDefined, free),
+        )
+    }
+
+    /// Takes the last predicate away again, which this row refuses.
+    fn take_back(&mut self, row: Row) -> Done
+        ensures { TakesBack self.old row self.new result }
+    {
+        match self.preds.list.pop() {
+            Some(pred) => {
+                let Pred {
+                    name,
+                    arity: _,
+                    body: _,
+                } = pred;
+                refused(row, name)
+            }
+            None => Done::Unbuilt,
+        }
+    }
+
+    /// Adds the name of the last predicate to those that are used.
+    fn use_last_name(&mut self, alloc: Global) -> Result<(), Memory>
+        ensures { OnOk result (UsesLastName self.old self.new) }
+    {
+        if let Some(pred) = self.preds.list.as_slice().last() {
+            self.names.insert(alloc, pred.name.bytes())?;
+        }
+        Ok(())
     }
 
     /// Defines a predicate with this many parameters.
@@ -123,16 +168,15 @@ impl Running {
         ensures { IfOk result (AddsPredicate self.old name count body self.new) }
     {
         let used = self.is_used(&name);
-        let label = copy_name(alloc, &name)?;
         let all = nodes(&body);
         let deepest = depth(&body);
         // More are refused.
-        let arity = count.min(65) as u32;
+        let arity = count.min(MAX_VARIABLES + 1) as u32;
         self.preds.list.push(Pred { name, arity, body })?;
         match self.predicate_row(used, count, all, deepest) {
-            Some(row) => refused(alloc, row, &label),
+            Some(row) => Ok(self.take_back(row)),
             None => {
-                self.names.insert(alloc, label.bytes())?;
+                self.use_last_name(alloc)?;
                 Ok(Done::Moved)
             }
         }
@@ -144,8 +188,12 @@ impl Running {
         ensures { LemmaRow self.now used goal.now result }
     {
         let large = large_row(goal, None);
-        let many = row_if(self.lemmas >= 10_000, Row::X7, large);
-        row_if(self.is_open(), Row::Q2, row_if(used, Row::Q4, many))
+        let many = row_if(self.lemmas >= MAX_LEMMAS, Row::TooManyLemmas, large);
+        row_if(
+            self.is_open(),
+            Row::ProofIsOpen,
+            row_if(used, Row::NameIsDefined, many),
+        )
     }
 
     /// Opens the proof of a lemma.
@@ -155,7 +203,7 @@ impl Running {
         let used = self.is_used(&name);
         let goal = opening(alloc, &statement)?;
         match self.lemma_row(used, &goal) {
-            Some(row) => refused(alloc, row, &name),
+            Some(row) => Ok(refused(row, name)),
             None => {
                 self.proof = Some(Proof {
                     name,
@@ -176,7 +224,7 @@ impl Running {
             Done::Moved
         } else {
             Done::Refused(Refusal {
-                row: Row::Q1,
+                row: Row::NoOpenProof,
                 name: None,
             })
         }
@@ -189,20 +237,20 @@ impl Running {
     {
         let Some(proof) = self.proof.take() else {
             return Ok(Done::Refused(Refusal {
-                row: Row::Q1,
+                row: Row::NoOpenProof,
                 name: None,
             }));
         };
         match proof.stage {
             Stage::Left(_) => Ok(Done::Refused(Refusal {
-                row: Row::Q3,
+                row: Row::GoalsRemain,
                 name: None,
             })),
             Stage::Closed(place) => {
                 self.derivation
                     .lemma(alloc, &proof.name, &proof.statement, proof.count, place)?;
                 self.names.insert(alloc, proof.name.bytes())?;
-                self.lemmas = self.lemmas.saturating_add(1).min(10_000);
+                self.lemmas = self.lemmas.saturating_add(1).min(MAX_LEMMAS);
                 Ok(Done::Moved)
             }
         }
@@ -215,12 +263,12 @@ impl Running {
     {
         let Some(proof) = self.proof.take() else {
             return Ok(Done::Refused(Refusal {
-                row: Row::Q1,
+                row: Row::NoOpenProof,
                 name: None,
             }));
         };
         match step_stage(alloc, proof.stage, step)? {
-            Stepped::Refused(row) => refused(alloc, row, step.name()),
+            Stepped::Refused(row) => directive_refused(alloc, row, step.name()),
             Stepped::Moved(stage) => {
                 self.proof = Some(Proof {
                     name: proof.name,
@@ -244,31 +292,36 @@ impl Running {
         }
     }
 
-    /// Does a sentence.
-    pub fn sentence(&mut self, alloc: Global, sentence: &Sentence) -> Result<Done, Memory>
+    /// Does a sentence that states neither a predicate nor a lemma.
+    fn other_sentence(&mut self, alloc: Global, sentence: &Sentence) -> Result<Done, Memory>
         requires { IsKept self.now }
-        ensures { IfOk result (DoesSentence self.old sentence.now self.new) }
+        ensures { StatesNothing sentence.now → IfOk result (DoesSentence self.old sentence.now self.new) }
     {
         match sentence {
-            Sentence::Predicate { name, params, body } => {
-                let name = copy_name(alloc, name)?;
-                let body = copy(alloc, body)?;
-                self.predicate(alloc, name, params.len(), body)
-            }
-            Sentence::Lemma { name, statement } => {
-                let name = copy_name(alloc, name)?;
-                let statement = copy(alloc, statement)?;
-                self.lemma(alloc, name, statement)
-            }
             Sentence::Proof => Ok(self.begin()),
             Sentence::Qed => self.qed(alloc),
             Sentence::Directive(directive) => self.any_directive(alloc, directive),
+            Sentence::Predicate { .. } | Sentence::Lemma { .. } => Ok(Done::Unbuilt),
             Sentence::Abort
             | Sentence::Restart
             | Sentence::Show
             | Sentence::Undo(_)
             | Sentence::Enter
             | Sentence::Leave => Ok(Done::Unbuilt),
+        }
+    }
+
+    /// Does a sentence, whose names and trees go into what is kept.
+    pub fn sentence(&mut self, alloc: Global, sentence: Sentence) -> Result<Done, Memory>
+        requires { IsKept self.now }
+        ensures { IfOk result (DoesSentence self.old sentence self.new) }
+    {
+        match sentence.into_stated() {
+            Ok(Stated::Predicate { name, params, body }) => {
+                self.predicate(alloc, name, params.len(), body)
+            }
+            Ok(Stated::Lemma { name, statement }) => self.lemma(alloc, name, statement),
+            Err(other) => self.other_sentence(alloc, &other),
         }
     }
 }

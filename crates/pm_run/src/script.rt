@@ -9,10 +9,10 @@ ghost use Rattle.pm_run.specs.Keeping.{IsKept};
 ghost use Rattle.pm_run.specs.Looping.{stop_of, AtSpan, AtSpans, Ends, EndsWith, IsShort, AreShort, EndIsShort, IsCut, stopped};
 
 use crate::ran::Ran;
-use crate::row::{Refusal, Row};
 use crate::running::{Done, Running};
 use pm_cutter::{Cutter, Ended, Span};
-use pm_logic::{List, Memory, Preds};
+use pm_goal::{Refusal, Row};
+use pm_logic::{List, MAX_TABLE, Memory, Preds};
 use pm_script::{Sentence, read_sentence};
 use pm_terms::TextFault;
 use std::alloc::Global;
@@ -53,7 +53,7 @@ fn read_span(
     span: &Span,
 ) -> Result<Result<Sentence, TextFault>, Memory>
     requires short { IsShort span.now }
-    requires few { length preds.now.list ≤ 1000000 }
+    requires few { length preds.now.list ≤ MAX_TABLE }
     ensures { IfOk result (λ read. read_sentence span.now.offset preds.now.list [] span.now.text ≡ read) }
 {
     let names = List::new(alloc);
@@ -85,10 +85,10 @@ fn do_read(
     running: &mut Running,
     number: u64,
     span: &Span,
-    sentence: &Sentence,
+    sentence: Sentence,
 ) -> Result<Option<Stop>, Memory>
     requires kept { IsKept running.now }
-    requires read { read_sentence span.now.offset running.now.preds.list [] span.now.text ≡ Ok sentence.now }
+    requires read { read_sentence span.now.offset running.now.preds.list [] span.now.text ≡ Ok sentence }
     ensures { IfOk result (AtSpan running.old number span.now running.new) }
 {
     let done = running.sentence(alloc, sentence)?;
@@ -108,7 +108,7 @@ fn do_span(
 {
     let read = read_span(alloc, &running.preds, span)?;
     match read {
-        Ok(sentence) => do_read(alloc, running, number, span, &sentence),
+        Ok(sentence) => do_read(alloc, running, number, span, sentence),
         Err(fault) => Ok(Some(Stop::Unreadable(fault))),
     }
 }
@@ -150,7 +150,7 @@ fn ended(alloc: Global, running: Running, number: u64, size: u64) -> Result<Ran,
 {
     if running.proof.is_some() {
         let refusal = Refusal {
-            row: Row::Q3,
+            row: Row::GoalsRemain,
             name: None,
         };
         return Ok(Ran::Refused {
@@ -228,7 +228,7 @@ fn run_cut(alloc: Global, bytes: &[u8], spans: &[Span], last: &Ended) -> Result<
     }
 }
 
-/// Does a script of at most 16,777,216 bytes. The error is want of memory, and then nothing is known of it.
+/// Does a script of at most `MAX_SCRIPT` bytes. The error is want of memory, and then nothing is known of it.
 pub fn run_script(alloc: Global, bytes: &[u8]) -> Result<Ran, Memory>
     requires { length bytes.now ≤ limit }
     ensures { IfOk result (ComesTo bytes.now) }

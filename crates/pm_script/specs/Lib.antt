@@ -1,2 +1,3 @@
 pub mod SentenceReading
 pub mod Words
+pub mod Stating

@@ -1,7 +1,10 @@
--- Reading of sentences. A sentence begins with a word, which says what follows.
-use Rattle.std.specs.Prelude.{ℕ, zero, suc, Bool, true, false, ◌&&◌, ◌||◌, not, nat_le, if◌then◌else◌, List, [], ◌∷◌, ◌++◌, drop, length, map, codes, Option, Some, None, Result, Ok, Err}
+-- Reading of sentences. A sentence begins with a word, which says what follows. To add a form of sentence: a variant in
+-- src/sentence.rt or src/directive.rt, its word in Words, its equation here and its reader in src/, and a constructor of
+-- SentenceGrammar in pm_script_grammar; then `rt check` in both, and what it does in pm_run.
+use Rattle.std.specs.Prelude.{ℕ, zero, suc, ◌-◌, Bool, true, false, ◌&&◌, ◌||◌, not, nat_le, if◌then◌else◌, List, [], ◌∷◌, ◌++◌, drop, length, map, codes, Option, Some, None, Result, Ok, Err}
 use Rattle.std.specs.List.{list_any}
 use Rattle.std.specs.Str.{bytes_eq}
+use Rattle.pm_logic.specs.declared.limits.TheConstants.{MAX_LEVELS}
 use Rattle.pm_logic.specs.declared.formula.Term.{Term}
 use Rattle.pm_logic.specs.declared.formula.Pure.{Pure}
 use Rattle.pm_logic.specs.declared.formula.Formula.{Formula}
@@ -41,7 +44,7 @@ use Rattle.pm_script.specs.declared.words.SentenceForm.TheVariants as sentence_f
 use Rattle.pm_script.specs.Words.{form_of, sentence_form_of}
 use Rattle.pm_patterns.specs.PatternReading.{name_in, quoted, quoted_name, quoted_names, grouped_names, quoted_sels, quoted_pattern, bound_pattern, quoted_intros, further_intros, quoted_premise, quoted_spats, quoted_cert}
 
--- ---- what is read, with the offset of its first tree that is deeper than 200
+-- ---- what is read, with the offset of its first tree that is deeper than MAX_LEVELS
 
 abbrev pub Deeps : Type 0
 Deeps = Option ℕ
@@ -53,7 +56,7 @@ abbrev pub deep_where : (shallow : Bool) → ℕ → Deeps
 deep_where shallow at = if shallow then None else Some at
 
 abbrev pub too_deep : ℕ → ℕ → Deeps
-too_deep depth at = deep_where (nat_le depth 200) at
+too_deep depth at = deep_where (nat_le depth MAX_LEVELS) at
 
 abbrev pub first_deep : Deeps → Deeps → Deeps
 first_deep (Some at) later = Some at
@@ -185,7 +188,7 @@ module _ (stop : ℕ) where
 
   -- `%I`, if it is there, `with "[ … ]" as "pat"`
   unfoldable pub asserted : List Place → Read (Spat × Pat)
-  asserted ts = behind_word (codes "with") (quoted_premise stop) (without_marker ts) >>= λ how. made (λ p. (how.0, p)) (as_pattern 200 how.1)
+  asserted ts = behind_word (codes "with") (quoted_premise stop) (without_marker ts) >>= λ how. made (λ p. (how.0, p)) (as_pattern MAX_LEVELS how.1)
 
   -- `( x )`
   unfoldable pub grouped_name : List Place → Read (List ℕ)
@@ -193,7 +196,7 @@ module _ (stop : ℕ) where
 
   -- `as ( x ) "pat"`
   unfoldable pub allocated : List Place → Read (List ℕ × Pat)
-  allocated ts = behind_word (codes "as") grouped_name ts >>= λ x. made (λ p. (x.0, p)) (quoted_pattern stop 200 x.1)
+  allocated ts = behind_word (codes "as") grouped_name ts >>= λ x. made (λ p. (x.0, p)) (quoted_pattern stop MAX_LEVELS x.1)
 
   -- ---- directives without trees, behind their first word
 
@@ -222,7 +225,7 @@ module _ (stop : ℕ) where
   quoted_two ts = quoted stop two_names ts
 
   unfoldable pub combine : List Place → Read Directive
-  combine ts = quoted_two ts >>= λ both. made (d.Combine both.0.0 both.0.1) (as_pattern 200 both.1)
+  combine ts = quoted_two ts >>= λ both. made (d.Combine both.0.0 both.0.1) (as_pattern MAX_LEVELS both.1)
 
   -- behind the minus, if there is one
   unfoldable pub rewrite_by : (back : Bool) → List Place → Read Directive
@@ -272,16 +275,16 @@ module _ (stop : ℕ) where
 
   module _ (preds : Callables) (names : Names) where
     unfoldable pub term_tree : List Place → ReadIn Term
-    term_tree ts = made (λ t. (t, too_deep (term_depth t) (offset stop ts))) (sum_in stop names 200 ts)
+    term_tree ts = made (λ t. (t, too_deep (term_depth t) (offset stop ts))) (sum_in stop names MAX_LEVELS ts)
 
     unfoldable pub operand_tree : List Place → ReadIn Term
-    operand_tree ts = made (λ t. (t, too_deep (term_depth t) (offset stop ts))) (operand_in stop names 200 ts)
+    operand_tree ts = made (λ t. (t, too_deep (term_depth t) (offset stop ts))) (operand_in stop names MAX_LEVELS ts)
 
     unfoldable pub pure_tree : List Place → ReadIn Pure
-    pure_tree ts = made (λ p. (p, too_deep (pure_depth p) (offset stop ts))) (pure_in stop names 200 Ors ts)
+    pure_tree ts = made (λ p. (p, too_deep (pure_depth p) (offset stop ts))) (pure_in stop names MAX_LEVELS Ors ts)
 
     unfoldable pub formula_tree : List Place → ReadIn Formula
-    formula_tree ts = made (λ f. (f, too_deep (depth_of f) (offset stop ts))) (formula_in stop preds 200 Wands names ts)
+    formula_tree ts = made (λ f. (f, too_deep (depth_of f) (offset stop ts))) (formula_in stop preds MAX_LEVELS Wands names ts)
 
     -- a formula in parentheses
     unfoldable pub grouped_formula : List Place → ReadIn Formula
@@ -336,11 +339,11 @@ module _ (stop : ℕ) where
     destruct ts = then_read d.Destruct (proof_term true ts) as_bound
 
     unfoldable pub pose_proof : List Place → ReadIn Directive
-    pose_proof ts = then_read d.PoseProof (proof_term true ts) (as_pattern 200)
+    pose_proof ts = then_read d.PoseProof (proof_term true ts) (as_pattern MAX_LEVELS)
 
     -- the pattern stands in one for the update
     unfoldable pub eliminate : List Place → ReadIn Directive
-    eliminate ts = then_read d.Mod (proof_term true ts) (as_pattern 199)
+    eliminate ts = then_read d.Mod (proof_term true ts) (as_pattern (MAX_LEVELS - 1))
 
     unfoldable pub specialize : List Place → ReadIn Directive
     specialize ts = mapped d.Specialize (proof_term false ts)
@@ -405,11 +408,11 @@ module _ (stop : ℕ) (preds : List Pred) (names : Names) where
   -- `⊢ F` behind a formula, if it stands there, which makes a wand and is open as one
   unfoldable pub conclusion : Formula → List Place → Read Formula
   conclusion f ts =
-      if sees s.Entails ts then made (formula.Wand f) (formula_in stop (callables 0 preds) 199 Wands [] (drop 1 ts)) else Ok (f, ts)
+      if sees s.Entails ts then made (formula.Wand f) (formula_in stop (callables 0 preds) (MAX_LEVELS - 1) Wands [] (drop 1 ts)) else Ok (f, ts)
 
   -- `F` or `F ⊢ F`, with no variables
   unfoldable pub statement : List Place → Read Formula
-  statement ts = formula_in stop (callables 0 preds) 200 Wands [] ts >>= λ f. conclusion f.0 f.1
+  statement ts = formula_in stop (callables 0 preds) MAX_LEVELS Wands [] ts >>= λ f. conclusion f.0 f.1
 
   unfoldable pub statement_tree : List Place → ReadIn Formula
   statement_tree ts = made (λ f. (f, too_deep (depth_of f) (offset stop ts))) (statement ts)

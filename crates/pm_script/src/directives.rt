@@ -1,7 +1,7 @@
 //! Directives, behind their first word.
 
 ghost use Rattle.pm_tokens.specs.Tokens.{places};
-ghost use Rattle.pm_terms.specs.Steps.{Gives, made};
+ghost use Rattle.pm_terms.specs.Steps.{ReadsAs, made};
 ghost use Rattle.pm_patterns.specs.PatternReading.{quoted_name, quoted_names, quoted_sels};
 ghost use Rattle.pm_text.specs.Parts.{table};
 ghost use Rattle.pm_script.specs.declared.directive.Directive.TheVariants as d;
@@ -15,7 +15,7 @@ use crate::plain::{ReadPlain, combine, intros, linear, rename, revert, rewrite};
 use crate::proof_terms::{proof_term, some_terms};
 use crate::trees::{ReadIn, formula_tree, operand_tree, pure_tree};
 use crate::words::{Form, PlainForm};
-use pm_logic::{Formula, Pure};
+use pm_logic::{Formula, MAX_LEVELS, Pure};
 use pm_patterns::{closed, quoted_name, quoted_sels};
 use pm_terms::{Context, expect};
 use pm_tokens::{Placed, Symbol};
@@ -27,7 +27,7 @@ pub type ReadDirective<'a> = ReadIn<'a, Directive>;
 /// A formula in parentheses.
 #[tactic(auto, unfolding(crate::specs::SentenceReading::grouped_formula, pm_terms::specs::Steps::closed_by))]
 fn grouped_formula<'a>(context: &Context<'_>, tokens: &'a [Placed<'a>]) -> ReadIn<'a, Formula>
-    ensures { Gives (λ x. (x.0, places x.1.now)) result (spec.grouped_formula context.now.stop (table context.now) context.now.vars (places tokens.now)) }
+    ensures { ReadsAs result (spec.grouped_formula context.now.stop (table context.now) context.now.vars (places tokens.now)) }
 {
     let rest = expect(Symbol::Open, context.stop, tokens)?;
     let (tree, rest) = formula_tree(context, rest)?;
@@ -37,7 +37,7 @@ fn grouped_formula<'a>(context: &Context<'_>, tokens: &'a [Placed<'a>]) -> ReadI
 /// A pure formula in parentheses.
 #[tactic(auto, unfolding(crate::specs::SentenceReading::grouped_pure, pm_terms::specs::Steps::closed_by))]
 fn grouped_pure<'a>(context: &Context<'_>, tokens: &'a [Placed<'a>]) -> ReadIn<'a, Pure>
-    ensures { Gives (λ x. (x.0, places x.1.now)) result (spec.grouped_pure context.now.stop (table context.now) context.now.vars (places tokens.now)) }
+    ensures { ReadsAs result (spec.grouped_pure context.now.stop (table context.now) context.now.vars (places tokens.now)) }
 {
     let rest = expect(Symbol::Open, context.stop, tokens)?;
     let (tree, rest) = pure_tree(context, rest)?;
@@ -47,7 +47,7 @@ fn grouped_pure<'a>(context: &Context<'_>, tokens: &'a [Placed<'a>]) -> ReadIn<'
 /// Behind `iDestruct`.
 #[tactic(auto, unfolding(crate::specs::SentenceReading::destruct))]
 fn destruct<'a>(context: &Context<'_>, tokens: &'a [Placed<'a>]) -> ReadDirective<'a>
-    ensures { Gives (λ x. (x.0, places x.1.now)) result (spec.destruct context.now.stop (table context.now) context.now.vars (places tokens.now)) }
+    ensures { ReadsAs result (spec.destruct context.now.stop (table context.now) context.now.vars (places tokens.now)) }
 {
     let ((proof, deep), rest) = proof_term(context, true, tokens)?;
     let (pat, rest) = as_bound(context.alloc, context.stop, rest)?;
@@ -57,27 +57,27 @@ fn destruct<'a>(context: &Context<'_>, tokens: &'a [Placed<'a>]) -> ReadDirectiv
 /// Behind `iPoseProof`.
 #[tactic(auto, unfolding(crate::specs::SentenceReading::pose_proof))]
 fn pose_proof<'a>(context: &Context<'_>, tokens: &'a [Placed<'a>]) -> ReadDirective<'a>
-    ensures { Gives (λ x. (x.0, places x.1.now)) result (spec.pose_proof context.now.stop (table context.now) context.now.vars (places tokens.now)) }
+    ensures { ReadsAs result (spec.pose_proof context.now.stop (table context.now) context.now.vars (places tokens.now)) }
 {
     let ((proof, deep), rest) = proof_term(context, true, tokens)?;
-    let (pat, rest) = as_pattern(context.alloc, context.stop, 200, rest)?;
+    let (pat, rest) = as_pattern(context.alloc, context.stop, MAX_LEVELS, rest)?;
     Ok(((Directive::PoseProof(proof, pat), deep), rest))
 }
 
 /// Behind `iMod`.
 #[tactic(auto, unfolding(crate::specs::SentenceReading::eliminate))]
 fn eliminate<'a>(context: &Context<'_>, tokens: &'a [Placed<'a>]) -> ReadDirective<'a>
-    ensures { Gives (λ x. (x.0, places x.1.now)) result (spec.eliminate context.now.stop (table context.now) context.now.vars (places tokens.now)) }
+    ensures { ReadsAs result (spec.eliminate context.now.stop (table context.now) context.now.vars (places tokens.now)) }
 {
     let ((proof, deep), rest) = proof_term(context, true, tokens)?;
-    let (pat, rest) = as_pattern(context.alloc, context.stop, 199, rest)?;
+    let (pat, rest) = as_pattern(context.alloc, context.stop, MAX_LEVELS - 1, rest)?;
     Ok(((Directive::Mod(proof, pat), deep), rest))
 }
 
 /// Behind `iSpecialize`.
 #[tactic(auto, unfolding(crate::specs::SentenceReading::specialize))]
 fn specialize<'a>(context: &Context<'_>, tokens: &'a [Placed<'a>]) -> ReadDirective<'a>
-    ensures { Gives (λ x. (x.0, places x.1.now)) result (spec.specialize context.now.stop (table context.now) context.now.vars (places tokens.now)) }
+    ensures { ReadsAs result (spec.specialize context.now.stop (table context.now) context.now.vars (places tokens.now)) }
 {
     let ((proof, deep), rest) = proof_term(context, false, tokens)?;
     Ok(((Directive::Specialize(proof), deep), rest))
@@ -86,7 +86,7 @@ fn specialize<'a>(context: &Context<'_>, tokens: &'a [Placed<'a>]) -> ReadDirect
 /// Behind `iApply`.
 #[tactic(auto, unfolding(crate::specs::SentenceReading::apply))]
 fn apply<'a>(context: &Context<'_>, tokens: &'a [Placed<'a>]) -> ReadDirective<'a>
-    ensures { Gives (λ x. (x.0, places x.1.now)) result (spec.apply context.now.stop (table context.now) context.now.vars (places tokens.now)) }
+    ensures { ReadsAs result (spec.apply context.now.stop (table context.now) context.now.vars (places tokens.now)) }
 {
     let ((proof, deep), rest) = proof_term(context, true, tokens)?;
     Ok(((Directive::Apply(proof), deep), rest))
@@ -95,7 +95,7 @@ fn apply<'a>(context: &Context<'_>, tokens: &'a [Placed<'a>]) -> ReadDirective<'
 /// Behind `iAssert`.
 #[tactic(auto, unfolding(crate::specs::SentenceReading::assert))]
 fn assert<'a>(context: &Context<'_>, tokens: &'a [Placed<'a>]) -> ReadDirective<'a>
-    ensures { Gives (λ x. (x.0, places x.1.now)) result (spec.assert context.now.stop (table context.now) context.now.vars (places tokens.now)) }
+    ensures { ReadsAs result (spec.assert context.now.stop (table context.now) context.now.vars (places tokens.now)) }
 {
     let ((f, deep), rest) = grouped_formula(context, tokens)?;
     let ((how, pat), rest) = asserted(context.alloc, context.stop, rest)?;
@@ -105,7 +105,7 @@ fn assert<'a>(context: &Context<'_>, tokens: &'a [Placed<'a>]) -> ReadDirective<
 /// Behind `iExists`.
 #[tactic(auto, unfolding(crate::specs::SentenceReading::exists_in))]
 fn exists_in<'a>(context: &Context<'_>, tokens: &'a [Placed<'a>]) -> ReadDirective<'a>
-    ensures { Gives (λ x. (x.0, places x.1.now)) result (spec.exists_in context.now.stop (table context.now) context.now.vars (places tokens.now)) }
+    ensures { ReadsAs result (spec.exists_in context.now.stop (table context.now) context.now.vars (places tokens.now)) }
 {
     let ((terms, deep), rest) = some_terms(context, tokens)?;
     Ok(((Directive::Exists(terms), deep), rest))
@@ -114,7 +114,7 @@ fn exists_in<'a>(context: &Context<'_>, tokens: &'a [Placed<'a>]) -> ReadDirecti
 /// Behind `iFold`.
 #[tactic(auto, unfolding(crate::specs::SentenceReading::fold))]
 fn fold<'a>(context: &Context<'_>, tokens: &'a [Placed<'a>]) -> ReadDirective<'a>
-    ensures { Gives (λ x. (x.0, places x.1.now)) result (spec.fold context.now.stop (table context.now) context.now.vars (places tokens.now)) }
+    ensures { ReadsAs result (spec.fold context.now.stop (table context.now) context.now.vars (places tokens.now)) }
 {
     let ((f, deep), rest) = grouped_formula(context, tokens)?;
     let (name, rest) = in_name(context.alloc, context.stop, rest)?;
@@ -124,7 +124,7 @@ fn fold<'a>(context: &Context<'_>, tokens: &'a [Placed<'a>]) -> ReadDirective<'a
 /// Behind `iWrite`.
 #[tactic(auto, unfolding(crate::specs::SentenceReading::write))]
 fn write<'a>(context: &Context<'_>, tokens: &'a [Placed<'a>]) -> ReadDirective<'a>
-    ensures { Gives (λ x. (x.0, places x.1.now)) result (spec.write context.now.stop (table context.now) context.now.vars (places tokens.now)) }
+    ensures { ReadsAs result (spec.write context.now.stop (table context.now) context.now.vars (places tokens.now)) }
 {
     let (name, rest) = quoted_name(context.alloc, context.stop, tokens)?;
     let ((value, deep), rest) = operand_tree(context, rest)?;
@@ -134,7 +134,7 @@ fn write<'a>(context: &Context<'_>, tokens: &'a [Placed<'a>]) -> ReadDirective<'
 /// Behind `iAlloc`.
 #[tactic(auto, unfolding(crate::specs::SentenceReading::alloc))]
 fn alloc<'a>(context: &Context<'_>, tokens: &'a [Placed<'a>]) -> ReadDirective<'a>
-    ensures { Gives (λ x. (x.0, places x.1.now)) result (spec.alloc context.now.stop (table context.now) context.now.vars (places tokens.now)) }
+    ensures { ReadsAs result (spec.alloc context.now.stop (table context.now) context.now.vars (places tokens.now)) }
 {
     let ((value, deep), rest) = operand_tree(context, tokens)?;
     let ((name, pat), rest) = allocated(context.alloc, context.stop, rest)?;
@@ -144,7 +144,7 @@ fn alloc<'a>(context: &Context<'_>, tokens: &'a [Placed<'a>]) -> ReadDirective<'
 /// Behind `iCases`.
 #[tactic(auto, unfolding(crate::specs::SentenceReading::cases))]
 fn cases<'a>(context: &Context<'_>, tokens: &'a [Placed<'a>]) -> ReadDirective<'a>
-    ensures { Gives (λ x. (x.0, places x.1.now)) result (spec.cases context.now.stop (table context.now) context.now.vars (places tokens.now)) }
+    ensures { ReadsAs result (spec.cases context.now.stop (table context.now) context.now.vars (places tokens.now)) }
 {
     let ((p, deep), rest) = grouped_pure(context, tokens)?;
     let (name, rest) = as_name(context.alloc, context.stop, rest)?;
@@ -153,7 +153,7 @@ fn cases<'a>(context: &Context<'_>, tokens: &'a [Placed<'a>]) -> ReadDirective<'
 
 /// Behind `iSplitL`.
 fn split_left<'a>(alloc: Global, stop: usize, tokens: &'a [Placed<'a>]) -> ReadPlain<'a>
-    ensures { Gives (λ x. (x.0, places x.1.now)) result (made d.SplitL (spec.if_any stop (quoted_names stop) (places tokens.now))) }
+    ensures { ReadsAs result (made d.SplitL (spec.if_any stop (quoted_names stop) (places tokens.now))) }
 {
     let (names, rest) = any_names(alloc, stop, tokens)?;
     Ok((Directive::SplitL(names), rest))
@@ -161,7 +161,7 @@ fn split_left<'a>(alloc: Global, stop: usize, tokens: &'a [Placed<'a>]) -> ReadP
 
 /// Behind `iSplitR`.
 fn split_right<'a>(alloc: Global, stop: usize, tokens: &'a [Placed<'a>]) -> ReadPlain<'a>
-    ensures { Gives (λ x. (x.0, places x.1.now)) result (made d.SplitR (spec.if_any stop (quoted_names stop) (places tokens.now))) }
+    ensures { ReadsAs result (made d.SplitR (spec.if_any stop (quoted_names stop) (places tokens.now))) }
 {
     let (names, rest) = any_names(alloc, stop, tokens)?;
     Ok((Directive::SplitR(names), rest))
@@ -169,7 +169,7 @@ fn split_right<'a>(alloc: Global, stop: usize, tokens: &'a [Placed<'a>]) -> Read
 
 /// Behind `iExact`.
 fn exact<'a>(alloc: Global, stop: usize, tokens: &'a [Placed<'a>]) -> ReadPlain<'a>
-    ensures { Gives (λ x. (x.0, places x.1.now)) result (made d.Exact (quoted_name stop (places tokens.now))) }
+    ensures { ReadsAs result (made d.Exact (quoted_name stop (places tokens.now))) }
 {
     let (name, rest) = quoted_name(alloc, stop, tokens)?;
     Ok((Directive::Exact(name), rest))
@@ -177,7 +177,7 @@ fn exact<'a>(alloc: Global, stop: usize, tokens: &'a [Placed<'a>]) -> ReadPlain<
 
 /// Behind `iClear`.
 fn clear<'a>(alloc: Global, stop: usize, tokens: &'a [Placed<'a>]) -> ReadPlain<'a>
-    ensures { Gives (λ x. (x.0, places x.1.now)) result (made d.Clear (quoted_sels stop (places tokens.now))) }
+    ensures { ReadsAs result (made d.Clear (quoted_sels stop (places tokens.now))) }
 {
     let (sels, rest) = quoted_sels(alloc, stop, tokens)?;
     Ok((Directive::Clear(sels), rest))
@@ -185,7 +185,7 @@ fn clear<'a>(alloc: Global, stop: usize, tokens: &'a [Placed<'a>]) -> ReadPlain<
 
 /// Behind `iFrame`.
 fn frame<'a>(alloc: Global, stop: usize, tokens: &'a [Placed<'a>]) -> ReadPlain<'a>
-    ensures { Gives (λ x. (x.0, places x.1.now)) result (made d.Frame (spec.if_any stop (quoted_sels stop) (places tokens.now))) }
+    ensures { ReadsAs result (made d.Frame (spec.if_any stop (quoted_sels stop) (places tokens.now))) }
 {
     let (sels, rest) = any_sels(alloc, stop, tokens)?;
     Ok((Directive::Frame(sels), rest))
@@ -193,7 +193,7 @@ fn frame<'a>(alloc: Global, stop: usize, tokens: &'a [Placed<'a>]) -> ReadPlain<
 
 /// Behind `iLöb`.
 fn loeb<'a>(alloc: Global, stop: usize, tokens: &'a [Placed<'a>]) -> ReadPlain<'a>
-    ensures { Gives (λ x. (x.0, places x.1.now)) result (made d.Loeb (spec.as_name stop (places tokens.now))) }
+    ensures { ReadsAs result (made d.Loeb (spec.as_name stop (places tokens.now))) }
 {
     let (name, rest) = as_name(alloc, stop, tokens)?;
     Ok((Directive::Loeb(name), rest))
@@ -201,7 +201,7 @@ fn loeb<'a>(alloc: Global, stop: usize, tokens: &'a [Placed<'a>]) -> ReadPlain<'
 
 /// Behind `iUnfold`.
 fn unfold<'a>(alloc: Global, stop: usize, tokens: &'a [Placed<'a>]) -> ReadPlain<'a>
-    ensures { Gives (λ x. (x.0, places x.1.now)) result (made d.Unfold (spec.if_any stop (quoted_name stop) (places tokens.now))) }
+    ensures { ReadsAs result (made d.Unfold (spec.if_any stop (quoted_name stop) (places tokens.now))) }
 {
     let (name, rest) = any_name(alloc, stop, tokens)?;
     Ok((Directive::Unfold(name), rest))
@@ -210,7 +210,7 @@ fn unfold<'a>(alloc: Global, stop: usize, tokens: &'a [Placed<'a>]) -> ReadPlain
 /// A directive without trees, of this form, and none where the form has trees.
 #[tactic(auto, unfolding(crate::specs::SentenceReading::plain_in))]
 fn plain_in<'a>(context: &Context<'_>, form: PlainForm, tokens: &'a [Placed<'a>]) -> ReadPlain<'a>
-    ensures { Gives (λ x. (x.0, places x.1.now)) result (spec.plain_in context.now.stop form (places tokens.now)) }
+    ensures { ReadsAs result (spec.plain_in context.now.stop form (places tokens.now)) }
 {
     let alloc = context.alloc;
     let stop = context.stop;
@@ -246,7 +246,7 @@ fn without_trees<'a>(
     form: PlainForm,
     tokens: &'a [Placed<'a>],
 ) -> ReadDirective<'a>
-    ensures { Gives (λ x. (x.0, places x.1.now)) result (spec.plain (spec.plain_in context.now.stop form (places tokens.now))) }
+    ensures { ReadsAs result (spec.plain (spec.plain_in context.now.stop form (places tokens.now))) }
 {
     let (directive, rest) = plain_in(context, form, tokens)?;
     Ok(((directive, None), rest))
@@ -259,7 +259,7 @@ pub fn directive_in<'a>(
     form: Form,
     tokens: &'a [Placed<'a>],
 ) -> ReadDirective<'a>
-    ensures { Gives (λ x. (x.0, places x.1.now)) result (spec.directive_in context.now.stop (table context.now) context.now.vars form (places tokens.now)) }
+    ensures { ReadsAs result (spec.directive_in context.now.stop (table context.now) context.now.vars form (places tokens.now)) }
 {
     match form {
         Form::Plain(form) => without_trees(context, form, tokens),

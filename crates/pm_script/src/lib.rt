@@ -18,4 +18,4 @@ pub use directive::Directive;
 pub use pm_cutter::{Cutter, Ended, Span};
 pub use pm_patterns::{Cert, Head, Item, Pat, Pick, ProofTerm, Sel, Spat};
 pub use reading::read_sentence;
-pub use sentence::Sentence;
+pub use sentence::{Sentence, Stated};

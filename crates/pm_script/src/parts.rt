@@ -3,12 +3,12 @@
 
 ghost use Rattle.std.specs.Prelude.{◌≡◌};
 ghost use Rattle.pm_tokens.specs.Tokens.{places};
-ghost use Rattle.pm_terms.specs.Steps.{Gives};
+ghost use Rattle.pm_terms.specs.Steps.{ReadsAs};
 ghost use Rattle.pm_patterns.specs.PatternReading.{quoted_name, quoted_names, quoted_sels};
 ghost use Rattle.pm_script.specs.SentenceReading as spec;
 
 use crate::steps::{expect_word, sees_word};
-use pm_logic::{List, Name};
+use pm_logic::{List, MAX_LEVELS, Name};
 use pm_patterns::{
     Head, Pat, Sel, Spat, bound_pattern, closed, name_in, quoted_name, quoted_names,
     quoted_pattern, quoted_premise, quoted_sels, quoted_spats,
@@ -28,7 +28,7 @@ pub fn head_in<'a>(
     lemmas: bool,
     tokens: &'a [Placed<'a>],
 ) -> Read<'a, Head>
-    ensures { Gives (λ x. (x.0, places x.1.now)) result (spec.head_in stop lemmas (places tokens.now)) }
+    ensures { ReadsAs result (spec.head_in stop lemmas (places tokens.now)) }
 {
     if !lemmas || sees(Symbol::Quote, tokens) {
         let (name, rest) = quoted_name(alloc, stop, tokens)?;
@@ -42,7 +42,7 @@ pub fn head_in<'a>(
 /// `with "spat …"`, if there is one.
 #[tactic(auto, unfolding(crate::specs::SentenceReading::spats_in))]
 pub fn spats_in<'a>(alloc: Global, stop: usize, tokens: &'a [Placed<'a>]) -> Read<'a, List<Spat>>
-    ensures { Gives (λ x. (x.0, places x.1.now)) result (spec.spats_in stop (places tokens.now)) }
+    ensures { ReadsAs result (spec.spats_in stop (places tokens.now)) }
 {
     if sees_word("with", tokens) {
         quoted_spats(alloc, stop, behind(tokens))
@@ -59,7 +59,7 @@ pub fn as_pattern<'a>(
     room: u32,
     tokens: &'a [Placed<'a>],
 ) -> Read<'a, Pat>
-    ensures { Gives (λ x. (x.0, places x.1.now)) result (spec.as_pattern stop room (places tokens.now)) }
+    ensures { ReadsAs result (spec.as_pattern stop room (places tokens.now)) }
 {
     let rest = expect_word("as", stop, tokens)?;
     quoted_pattern(alloc, stop, room, rest)
@@ -68,7 +68,7 @@ pub fn as_pattern<'a>(
 /// `as "pat"`, or `as ( x … ) "pat"`.
 #[tactic(auto, unfolding(crate::specs::SentenceReading::as_bound))]
 pub fn as_bound<'a>(alloc: Global, stop: usize, tokens: &'a [Placed<'a>]) -> Read<'a, Pat>
-    ensures { Gives (λ x. (x.0, places x.1.now)) result (spec.as_bound stop (places tokens.now)) }
+    ensures { ReadsAs result (spec.as_bound stop (places tokens.now)) }
 {
     let rest = expect_word("as", stop, tokens)?;
     bound_pattern(alloc, stop, rest)
@@ -77,7 +77,7 @@ pub fn as_bound<'a>(alloc: Global, stop: usize, tokens: &'a [Placed<'a>]) -> Rea
 /// `as "H"`.
 #[tactic(auto, unfolding(crate::specs::SentenceReading::as_name))]
 pub fn as_name<'a>(alloc: Global, stop: usize, tokens: &'a [Placed<'a>]) -> Read<'a, Name>
-    ensures { Gives (λ x. (x.0, places x.1.now)) result (spec.as_name stop (places tokens.now)) }
+    ensures { ReadsAs result (spec.as_name stop (places tokens.now)) }
 {
     let rest = expect_word("as", stop, tokens)?;
     quoted_name(alloc, stop, rest)
@@ -86,7 +86,7 @@ pub fn as_name<'a>(alloc: Global, stop: usize, tokens: &'a [Placed<'a>]) -> Read
 /// `in "H"`.
 #[tactic(auto, unfolding(crate::specs::SentenceReading::in_name))]
 pub fn in_name<'a>(alloc: Global, stop: usize, tokens: &'a [Placed<'a>]) -> Read<'a, Name>
-    ensures { Gives (λ x. (x.0, places x.1.now)) result (spec.in_name stop (places tokens.now)) }
+    ensures { ReadsAs result (spec.in_name stop (places tokens.now)) }
 {
     let rest = expect_word("in", stop, tokens)?;
     quoted_name(alloc, stop, rest)
@@ -95,7 +95,7 @@ pub fn in_name<'a>(alloc: Global, stop: usize, tokens: &'a [Placed<'a>]) -> Read
 /// `into "H"`.
 #[tactic(auto, unfolding(crate::specs::SentenceReading::into_name))]
 pub fn into_name<'a>(alloc: Global, stop: usize, tokens: &'a [Placed<'a>]) -> Read<'a, Name>
-    ensures { Gives (λ x. (x.0, places x.1.now)) result (spec.into_name stop (places tokens.now)) }
+    ensures { ReadsAs result (spec.into_name stop (places tokens.now)) }
 {
     let rest = expect_word("into", stop, tokens)?;
     quoted_name(alloc, stop, rest)
@@ -115,18 +115,18 @@ fn without_marker<'a>(tokens: &'a [Placed<'a>]) -> &'a [Placed<'a>]
 /// `%I`, if it is there, `with "[ … ]" as "pat"`.
 #[tactic(auto, unfolding(crate::specs::SentenceReading::asserted))]
 pub fn asserted<'a>(alloc: Global, stop: usize, tokens: &'a [Placed<'a>]) -> Read<'a, (Spat, Pat)>
-    ensures { Gives (λ x. (x.0, places x.1.now)) result (spec.asserted stop (places tokens.now)) }
+    ensures { ReadsAs result (spec.asserted stop (places tokens.now)) }
 {
     let rest = expect_word("with", stop, without_marker(tokens))?;
     let (how, rest) = quoted_premise(alloc, stop, rest)?;
-    let (pat, rest) = as_pattern(alloc, stop, 200, rest)?;
+    let (pat, rest) = as_pattern(alloc, stop, MAX_LEVELS, rest)?;
     Ok(((how, pat), rest))
 }
 
 /// `( x )`.
 #[tactic(auto, unfolding(crate::specs::SentenceReading::grouped_name, pm_terms::specs::Steps::closed_by))]
 fn grouped_name<'a>(alloc: Global, stop: usize, tokens: &'a [Placed<'a>]) -> Read<'a, Name>
-    ensures { Gives (λ x. (x.0, places x.1.now)) result (spec.grouped_name stop (places tokens.now)) }
+    ensures { ReadsAs result (spec.grouped_name stop (places tokens.now)) }
 {
     let rest = expect(Symbol::Open, stop, tokens)?;
     let (name, rest) = name_in(alloc, stop, rest)?;
@@ -136,18 +136,18 @@ fn grouped_name<'a>(alloc: Global, stop: usize, tokens: &'a [Placed<'a>]) -> Rea
 /// `as ( x ) "pat"`.
 #[tactic(auto, unfolding(crate::specs::SentenceReading::allocated))]
 pub fn allocated<'a>(alloc: Global, stop: usize, tokens: &'a [Placed<'a>]) -> Read<'a, (Name, Pat)>
-    ensures { Gives (λ x. (x.0, places x.1.now)) result (spec.allocated stop (places tokens.now)) }
+    ensures { ReadsAs result (spec.allocated stop (places tokens.now)) }
 {
     let rest = expect_word("as", stop, tokens)?;
     let (name, rest) = grouped_name(alloc, stop, rest)?;
-    let (pat, rest) = quoted_pattern(alloc, stop, 200, rest)?;
+    let (pat, rest) = quoted_pattern(alloc, stop, MAX_LEVELS, rest)?;
     Ok(((name, pat), rest))
 }
 
 /// A name between quotes, and none where the tokens are at an end.
 #[tactic(auto, unfolding(crate::specs::SentenceReading::if_any))]
 pub fn any_name<'a>(alloc: Global, stop: usize, tokens: &'a [Placed<'a>]) -> Read<'a, Option<Name>>
-    ensures { Gives (λ x. (x.0, places x.1.now)) result (spec.if_any stop (quoted_name stop) (places tokens.now)) }
+    ensures { ReadsAs result (spec.if_any stop (quoted_name stop) (places tokens.now)) }
 {
     match tokens {
         [] => Ok((None, tokens)),
@@ -165,7 +165,7 @@ pub fn any_target<'a>(
     stop: usize,
     tokens: &'a [Placed<'a>],
 ) -> Read<'a, Option<Name>>
-    ensures { Gives (λ x. (x.0, places x.1.now)) result (spec.if_any stop (spec.in_name stop) (places tokens.now)) }
+    ensures { ReadsAs result (spec.if_any stop (spec.in_name stop) (places tokens.now)) }
 {
     match tokens {
         [] => Ok((None, tokens)),
@@ -183,7 +183,7 @@ pub fn any_names<'a>(
     stop: usize,
     tokens: &'a [Placed<'a>],
 ) -> Read<'a, Option<List<Name>>>
-    ensures { Gives (λ x. (x.0, places x.1.now)) result (spec.if_any stop (quoted_names stop) (places tokens.now)) }
+    ensures { ReadsAs result (spec.if_any stop (quoted_names stop) (places tokens.now)) }
 {
     match tokens {
         [] => Ok((None, tokens)),
@@ -201,7 +201,7 @@ pub fn any_sels<'a>(
     stop: usize,
     tokens: &'a [Placed<'a>],
 ) -> Read<'a, Option<List<Sel>>>
-    ensures { Gives (λ x. (x.0, places x.1.now)) result (spec.if_any stop (quoted_sels stop) (places tokens.now)) }
+    ensures { ReadsAs result (spec.if_any stop (quoted_sels stop) (places tokens.now)) }
 {
     match tokens {
         [] => Ok((None, tokens)),

@@ -2,7 +2,7 @@
 
 ghost use Rattle.std.specs.Prelude.{◌≡◌, map, IfOk};
 ghost use Rattle.pm_tokens.specs.Tokens.{places};
-ghost use Rattle.pm_terms.specs.Steps.{Gives};
+ghost use Rattle.pm_terms.specs.Steps.{ReadsAs};
 ghost use Rattle.pm_patterns.specs.PatternReading.{quoted_cert};
 ghost use Rattle.pm_patterns.specs.declared.pattern.Pat.TheVariants as pat;
 ghost use Rattle.pm_script.specs.SentenceReading as spec;
@@ -10,7 +10,7 @@ ghost use Rattle.pm_script.specs.SentenceReading as spec;
 use crate::directive::Directive;
 use crate::parts::{Read, any_target, as_pattern, into_name};
 use crate::steps::expect_word;
-use pm_logic::{List, Memory, Name, copy_name};
+use pm_logic::{List, MAX_LEVELS, Memory, Name, copy_name};
 use pm_patterns::{
     Cert, Pat, Sel, closed, further_intros, grouped_names, name_in, quoted_cert, quoted_intros,
     quoted_name, quoted_sels,
@@ -30,7 +30,7 @@ fn any_intros<'a>(
     found: List<Pat>,
     tokens: &'a [Placed<'a>],
 ) -> Read<'a, List<Pat>>
-    ensures { Gives (λ x. (x.0, places x.1.now)) result (spec.any_intros stop found (places tokens.now)) }
+    ensures { ReadsAs result (spec.any_intros stop found (places tokens.now)) }
 {
     match tokens {
         [] => Ok((found, tokens)),
@@ -41,7 +41,7 @@ fn any_intros<'a>(
 /// Selections between quotes, and none where the tokens are at an end.
 #[tactic(auto, unfolding(crate::specs::SentenceReading::any_sels))]
 fn any_sels<'a>(alloc: Global, stop: usize, tokens: &'a [Placed<'a>]) -> Read<'a, List<Sel>>
-    ensures { Gives (λ x. (x.0, places x.1.now)) result (spec.any_sels stop (places tokens.now)) }
+    ensures { ReadsAs result (spec.any_sels stop (places tokens.now)) }
 {
     match tokens {
         [] => Ok((List::new(alloc), tokens)),
@@ -64,7 +64,7 @@ fn variables(alloc: Global, names: &[Name]) -> Result<List<Pat>, Memory>
 /// `( x … )`, and introduction items if there are any.
 #[tactic(auto, unfolding(crate::specs::SentenceReading::named_intros))]
 fn named_intros<'a>(alloc: Global, stop: usize, tokens: &'a [Placed<'a>]) -> ReadPlain<'a>
-    ensures { Gives (λ x. (x.0, places x.1.now)) result (spec.named_intros stop (places tokens.now)) }
+    ensures { ReadsAs result (spec.named_intros stop (places tokens.now)) }
 {
     let (names, rest) = grouped_names(alloc, stop, tokens)?;
     let found = variables(alloc, names.as_slice())?;
@@ -75,7 +75,7 @@ fn named_intros<'a>(alloc: Global, stop: usize, tokens: &'a [Placed<'a>]) -> Rea
 /// Behind `iIntros`.
 #[tactic(auto, unfolding(crate::specs::SentenceReading::intros))]
 pub fn intros<'a>(alloc: Global, stop: usize, tokens: &'a [Placed<'a>]) -> ReadPlain<'a>
-    ensures { Gives (λ x. (x.0, places x.1.now)) result (spec.intros stop (places tokens.now)) }
+    ensures { ReadsAs result (spec.intros stop (places tokens.now)) }
 {
     if sees(Symbol::Open, tokens) {
         return named_intros(alloc, stop, tokens);
@@ -87,7 +87,7 @@ pub fn intros<'a>(alloc: Global, stop: usize, tokens: &'a [Placed<'a>]) -> ReadP
 /// Behind `iRename`.
 #[tactic(auto, unfolding(crate::specs::SentenceReading::rename))]
 pub fn rename<'a>(alloc: Global, stop: usize, tokens: &'a [Placed<'a>]) -> ReadPlain<'a>
-    ensures { Gives (λ x. (x.0, places x.1.now)) result (spec.rename stop (places tokens.now)) }
+    ensures { ReadsAs result (spec.rename stop (places tokens.now)) }
 {
     let (from, rest) = quoted_name(alloc, stop, tokens)?;
     let (to, rest) = into_name(alloc, stop, rest)?;
@@ -97,7 +97,7 @@ pub fn rename<'a>(alloc: Global, stop: usize, tokens: &'a [Placed<'a>]) -> ReadP
 /// `( x … )`, and selections if there are any.
 #[tactic(auto, unfolding(crate::specs::SentenceReading::named_revert))]
 fn named_revert<'a>(alloc: Global, stop: usize, tokens: &'a [Placed<'a>]) -> ReadPlain<'a>
-    ensures { Gives (λ x. (x.0, places x.1.now)) result (spec.named_revert stop (places tokens.now)) }
+    ensures { ReadsAs result (spec.named_revert stop (places tokens.now)) }
 {
     let (names, rest) = grouped_names(alloc, stop, tokens)?;
     let (sels, rest) = any_sels(alloc, stop, rest)?;
@@ -107,7 +107,7 @@ fn named_revert<'a>(alloc: Global, stop: usize, tokens: &'a [Placed<'a>]) -> Rea
 /// Behind `iRevert`.
 #[tactic(auto, unfolding(crate::specs::SentenceReading::revert))]
 pub fn revert<'a>(alloc: Global, stop: usize, tokens: &'a [Placed<'a>]) -> ReadPlain<'a>
-    ensures { Gives (λ x. (x.0, places x.1.now)) result (spec.revert stop (places tokens.now)) }
+    ensures { ReadsAs result (spec.revert stop (places tokens.now)) }
 {
     if sees(Symbol::Open, tokens) {
         return named_revert(alloc, stop, tokens);
@@ -118,7 +118,7 @@ pub fn revert<'a>(alloc: Global, stop: usize, tokens: &'a [Placed<'a>]) -> ReadP
 
 #[tactic(auto, unfolding(crate::specs::SentenceReading::two_names))]
 fn two_names<'a>(alloc: Global, stop: usize, tokens: &'a [Placed<'a>]) -> Read<'a, (Name, Name)>
-    ensures { Gives (λ x. (x.0, places x.1.now)) result (spec.two_names stop (places tokens.now)) }
+    ensures { ReadsAs result (spec.two_names stop (places tokens.now)) }
 {
     let (first, rest) = name_in(alloc, stop, tokens)?;
     let (second, rest) = name_in(alloc, stop, rest)?;
@@ -128,7 +128,7 @@ fn two_names<'a>(alloc: Global, stop: usize, tokens: &'a [Placed<'a>]) -> Read<'
 /// Two names between quotes.
 #[tactic(auto, unfolding(crate::specs::SentenceReading::quoted_two, pm_patterns::specs::PatternReading::quoted, pm_terms::specs::Steps::closed_by))]
 fn quoted_two<'a>(alloc: Global, stop: usize, tokens: &'a [Placed<'a>]) -> Read<'a, (Name, Name)>
-    ensures { Gives (λ x. (x.0, places x.1.now)) result (spec.quoted_two stop (places tokens.now)) }
+    ensures { ReadsAs result (spec.quoted_two stop (places tokens.now)) }
 {
     let rest = expect(Symbol::Quote, stop, tokens)?;
     let (both, rest) = two_names(alloc, stop, rest)?;
@@ -138,17 +138,17 @@ fn quoted_two<'a>(alloc: Global, stop: usize, tokens: &'a [Placed<'a>]) -> Read<
 /// Behind `iCombine`.
 #[tactic(auto, unfolding(crate::specs::SentenceReading::combine))]
 pub fn combine<'a>(alloc: Global, stop: usize, tokens: &'a [Placed<'a>]) -> ReadPlain<'a>
-    ensures { Gives (λ x. (x.0, places x.1.now)) result (spec.combine stop (places tokens.now)) }
+    ensures { ReadsAs result (spec.combine stop (places tokens.now)) }
 {
     let ((first, second), rest) = quoted_two(alloc, stop, tokens)?;
-    let (pat, rest) = as_pattern(alloc, stop, 200, rest)?;
+    let (pat, rest) = as_pattern(alloc, stop, MAX_LEVELS, rest)?;
     Ok((Directive::Combine(first, second, pat), rest))
 }
 
 /// Behind `iRewrite` and the minus, if there is one.
 #[tactic(auto, unfolding(crate::specs::SentenceReading::rewrite_by))]
 fn rewrite_by<'a>(alloc: Global, stop: usize, back: bool, tokens: &'a [Placed<'a>]) -> ReadPlain<'a>
-    ensures { Gives (λ x. (x.0, places x.1.now)) result (spec.rewrite_by stop back (places tokens.now)) }
+    ensures { ReadsAs result (spec.rewrite_by stop back (places tokens.now)) }
 {
     let (fact, rest) = quoted_name(alloc, stop, tokens)?;
     let (target, rest) = any_target(alloc, stop, rest)?;
@@ -158,7 +158,7 @@ fn rewrite_by<'a>(alloc: Global, stop: usize, back: bool, tokens: &'a [Placed<'a
 /// Behind `iRewrite`.
 #[tactic(auto, unfolding(crate::specs::SentenceReading::rewrite))]
 pub fn rewrite<'a>(alloc: Global, stop: usize, tokens: &'a [Placed<'a>]) -> ReadPlain<'a>
-    ensures { Gives (λ x. (x.0, places x.1.now)) result (spec.rewrite stop (places tokens.now)) }
+    ensures { ReadsAs result (spec.rewrite stop (places tokens.now)) }
 {
     if sees(Symbol::Minus, tokens) {
         rewrite_by(alloc, stop, true, behind(tokens))
@@ -170,7 +170,7 @@ pub fn rewrite<'a>(alloc: Global, stop: usize, tokens: &'a [Placed<'a>]) -> Read
 /// A certificate between quotes, and none where the tokens are at an end.
 #[tactic(auto, unfolding(crate::specs::SentenceReading::if_any))]
 fn any_cert<'a>(alloc: Global, stop: usize, tokens: &'a [Placed<'a>]) -> Read<'a, Option<Cert>>
-    ensures { Gives (λ x. (x.0, places x.1.now)) result (spec.if_any stop (quoted_cert stop) (places tokens.now)) }
+    ensures { ReadsAs result (spec.if_any stop (quoted_cert stop) (places tokens.now)) }
 {
     match tokens {
         [] => Ok((None, tokens)),
@@ -198,7 +198,7 @@ fn both_certs(alloc: Global, first: Cert, second: Option<Cert>) -> Result<List<C
 /// One certificate or two.
 #[tactic(auto, unfolding(crate::specs::SentenceReading::certs_in))]
 fn certs_in<'a>(alloc: Global, stop: usize, tokens: &'a [Placed<'a>]) -> Read<'a, List<Cert>>
-    ensures { Gives (λ x. (x.0, places x.1.now)) result (spec.certs_in stop (places tokens.now)) }
+    ensures { ReadsAs result (spec.certs_in stop (places tokens.now)) }
 {
     let (first, rest) = quoted_cert(alloc, stop, tokens)?;
     let (second, rest) = any_cert(alloc, stop, rest)?;
@@ -208,7 +208,7 @@ fn certs_in<'a>(alloc: Global, stop: usize, tokens: &'a [Placed<'a>]) -> Read<'a
 /// `with` and certificates.
 #[tactic(auto, unfolding(crate::specs::SentenceReading::with_certs))]
 fn with_certs<'a>(alloc: Global, stop: usize, tokens: &'a [Placed<'a>]) -> ReadPlain<'a>
-    ensures { Gives (λ x. (x.0, places x.1.now)) result (spec.with_certs stop (places tokens.now)) }
+    ensures { ReadsAs result (spec.with_certs stop (places tokens.now)) }
 {
     let rest = expect_word("with", stop, tokens)?;
     let (certs, rest) = certs_in(alloc, stop, rest)?;
@@ -218,7 +218,7 @@ fn with_certs<'a>(alloc: Global, stop: usize, tokens: &'a [Placed<'a>]) -> ReadP
 /// Behind `linear`.
 #[tactic(auto, unfolding(crate::specs::SentenceReading::linear))]
 pub fn linear<'a>(alloc: Global, stop: usize, tokens: &'a [Placed<'a>]) -> ReadPlain<'a>
-    ensures { Gives (λ x. (x.0, places x.1.now)) result (spec.linear stop (places tokens.now)) }
+    ensures { ReadsAs result (spec.linear stop (places tokens.now)) }
 {
     match tokens {
         [] => Ok((Directive::Linear, tokens)),

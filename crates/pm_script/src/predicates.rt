@@ -1,9 +1,10 @@
 //! Predicates, behind their first word.
 
 ghost use Rattle.std.specs.Prelude.{◌≡◌, ◌+◌, ◌<◌, ◌≤◌, ◌^◌, length, IfOk};
+ghost use Rattle.pm_logic.specs.declared.limits.TheConstants.{MAX_SENTENCE};
 ghost use Rattle.pm_tokens.specs.declared.symbol.Symbol.TheVariants.{Comma, Open};
 ghost use Rattle.pm_tokens.specs.Tokens.{places};
-ghost use Rattle.pm_terms.specs.Steps.{Answers, Gives, expect, sees};
+ghost use Rattle.pm_terms.specs.Steps.{ReadsAs, LeavesExactly, expect, sees};
 ghost use Rattle.pm_script.specs.SentenceReading as spec;
 
 use crate::parts::Read;
@@ -27,7 +28,7 @@ fn param_in<'a>(
     seen: &NameList,
     tokens: &'a [Placed<'a>],
 ) -> Read<'a, Name>
-    ensures { Gives (λ x. (x.0, places x.1.now)) result (spec.param_in stop seen.now (places tokens.now)) }
+    ensures { ReadsAs result (spec.param_in stop seen.now (places tokens.now)) }
 {
     let (name, rest) = name_in(alloc, stop, tokens)?;
     if seen.contains(name.bytes()) {
@@ -45,7 +46,7 @@ fn next_param<'a>(
     found: NameList,
     tokens: &'a [Placed<'a>],
 ) -> Read<'a, NameList>
-    ensures value { Gives (λ x. (x.0, places x.1.now)) result (spec.next_param stop found (places tokens.now)) }
+    ensures value { ReadsAs result (spec.next_param stop found (places tokens.now)) }
     ensures few { IfOk result (λ x. length x.0 ≤ length found + 1) }
 {
     let (name, rest) = param_in(alloc, stop, &found, behind(tokens))?;
@@ -61,7 +62,7 @@ fn more_params<'a>(
     found: NameList,
     tokens: &'a [Placed<'a>],
 ) -> Read<'a, NameList>
-    ensures value { Gives (λ x. (x.0, places x.1.now)) result (spec.carried (sees Comma) (spec.next_param stop) most found (places tokens.now)) }
+    ensures value { ReadsAs result (spec.carried (sees Comma) (spec.next_param stop) most found (places tokens.now)) }
     ensures few { IfOk result (λ x. length x.0 ≤ length found + most) }
 {
     if most == 0 {
@@ -81,7 +82,7 @@ fn more_params<'a>(
 /// One parameter or more.
 #[tactic(auto, unfolding(crate::specs::SentenceReading::some_params), using(crate::proofs::Carried::length_places))]
 fn some_params<'a>(alloc: Global, stop: usize, tokens: &'a [Placed<'a>]) -> ReadList<'a, Name>
-    ensures value { Gives (λ x. (x.0, places x.1.now)) result (spec.some_params stop (places tokens.now)) }
+    ensures value { ReadsAs result (spec.some_params stop (places tokens.now)) }
     ensures few { IfOk result (λ x. length x.0 ≤ length tokens.now) }
 {
     let (first, rest) = name_in(alloc, stop, tokens)?;
@@ -92,7 +93,7 @@ fn some_params<'a>(alloc: Global, stop: usize, tokens: &'a [Placed<'a>]) -> Read
 
 #[tactic(auto, unfolding(crate::specs::SentenceReading::params))]
 fn params<'a>(alloc: Global, stop: usize, tokens: &'a [Placed<'a>]) -> ReadList<'a, Name>
-    ensures value { Gives (λ x. (x.0, places x.1.now)) result (spec.params stop (places tokens.now)) }
+    ensures value { ReadsAs result (spec.params stop (places tokens.now)) }
     ensures few { IfOk result (λ x. length x.0 ≤ length tokens.now) }
 {
     if sees(Symbol::Close, tokens) {
@@ -105,7 +106,7 @@ fn params<'a>(alloc: Global, stop: usize, tokens: &'a [Placed<'a>]) -> ReadList<
 /// The tokens behind a parenthesis that opens.
 #[tactic(auto, unfolding(pm_terms::specs::Steps::expect))]
 fn opened<'a>(stop: usize, tokens: &'a [Placed<'a>]) -> Result<&'a [Placed<'a>], TextFault>
-    ensures value { Answers (λ r. places r.now) result (expect Open stop (places tokens.now)) }
+    ensures value { LeavesExactly result (expect Open stop (places tokens.now)) }
     ensures within { IfOk result (λ r. length r.now ≤ length tokens.now) }
 {
     if sees(Symbol::Open, tokens) {
@@ -118,7 +119,7 @@ fn opened<'a>(stop: usize, tokens: &'a [Placed<'a>]) -> Result<&'a [Placed<'a>],
 /// `( x , … )`.
 #[tactic(auto, unfolding(crate::specs::SentenceReading::grouped_params, pm_terms::specs::Steps::closed_by))]
 fn grouped_params<'a>(alloc: Global, stop: usize, tokens: &'a [Placed<'a>]) -> ReadList<'a, Name>
-    ensures value { Gives (λ x. (x.0, places x.1.now)) result (spec.grouped_params stop (places tokens.now)) }
+    ensures value { ReadsAs result (spec.grouped_params stop (places tokens.now)) }
     ensures few { IfOk result (λ x. length x.0 ≤ length tokens.now) }
 {
     let rest = opened(stop, tokens)?;
@@ -136,7 +137,7 @@ fn body_in<'a>(
     tokens: &'a [Placed<'a>],
 ) -> ReadIn<'a, Formula>
     requires { length params.now < 2 ^ 31 }
-    ensures { Gives (λ x. (x.0, places x.1.now)) result (spec.body_in context.now.stop context.now.preds.now context.now.vars name.now params.now (places tokens.now)) }
+    ensures { ReadsAs result (spec.body_in context.now.stop context.now.preds.now context.now.vars name.now params.now (places tokens.now)) }
 {
     let inside = Context {
         alloc: context.alloc,
@@ -160,7 +161,7 @@ fn defined<'a>(
     tokens: &'a [Placed<'a>],
 ) -> ReadSentence<'a>
     requires { length params < 2 ^ 31 }
-    ensures { Gives (λ x. (x.0, places x.1.now)) result (spec.defined context.now.stop context.now.preds.now context.now.vars name params (places tokens.now)) }
+    ensures { ReadsAs result (spec.defined context.now.stop context.now.preds.now context.now.vars name params (places tokens.now)) }
 {
     let rest = expect(Symbol::Defines, context.stop, tokens)?;
     let ((body, deep), rest) = body_in(context, &name, &params, rest)?;
@@ -170,8 +171,8 @@ fn defined<'a>(
 /// `p ( x , … ) := F`.
 #[tactic(auto, unfolding(crate::specs::SentenceReading::predicate))]
 pub fn predicate<'a>(context: &Context<'_>, tokens: &'a [Placed<'a>]) -> ReadSentence<'a>
-    requires { length tokens.now ≤ 100000000 }
-    ensures { Gives (λ x. (x.0, places x.1.now)) result (spec.predicate context.now.stop context.now.preds.now context.now.vars (places tokens.now)) }
+    requires { length tokens.now ≤ MAX_SENTENCE }
+    ensures { ReadsAs result (spec.predicate context.now.stop context.now.preds.now context.now.vars (places tokens.now)) }
 {
     let (name, rest) = name_in(context.alloc, context.stop, tokens)?;
     let (params, rest) = grouped_params(context.alloc, context.stop, rest)?;

@@ -3,7 +3,7 @@
 ghost use Rattle.std.specs.Prelude.{◌≡◌, IfOk};
 ghost use Rattle.pm_tokens.specs.declared.symbol.Symbol.TheVariants.{Comma};
 ghost use Rattle.pm_tokens.specs.Tokens.{places};
-ghost use Rattle.pm_terms.specs.Steps.{Gives, sees};
+ghost use Rattle.pm_terms.specs.Steps.{ReadsAs, sees};
 ghost use Rattle.pm_text.specs.Parts.{table};
 ghost use Rattle.pm_script.specs.SentenceReading as spec;
 
@@ -53,7 +53,7 @@ fn next_term<'a>(
     found: Terms,
     tokens: &'a [Placed<'a>],
 ) -> ReadIn<'a, List<Term>>
-    ensures { Gives (λ x. (x.0, places x.1.now)) result (spec.next_term context.now.stop (table context.now) context.now.vars found (places tokens.now)) }
+    ensures { ReadsAs result (spec.next_term context.now.stop (table context.now) context.now.vars found (places tokens.now)) }
 {
     let (tree, rest) = term_tree(context, behind(tokens))?;
     Ok((with_tree(found, tree)?, rest))
@@ -67,7 +67,7 @@ fn more_terms<'a>(
     found: Terms,
     tokens: &'a [Placed<'a>],
 ) -> ReadIn<'a, List<Term>>
-    ensures { Gives (λ x. (x.0, places x.1.now)) result (spec.carried (sees Comma) (spec.next_term context.now.stop (table context.now) context.now.vars) most found (places tokens.now)) }
+    ensures { ReadsAs result (spec.carried (sees Comma) (spec.next_term context.now.stop (table context.now) context.now.vars) most found (places tokens.now)) }
 {
     if most == 0 {
         return Ok((found, tokens));
@@ -86,7 +86,7 @@ fn more_terms<'a>(
 /// One term or more, with commas between.
 #[tactic(auto, unfolding(crate::specs::SentenceReading::some_terms), using(crate::proofs::Carried::length_places))]
 pub fn some_terms<'a>(context: &Context<'_>, tokens: &'a [Placed<'a>]) -> ReadIn<'a, List<Term>>
-    ensures { Gives (λ x. (x.0, places x.1.now)) result (spec.some_terms context.now.stop (table context.now) context.now.vars (places tokens.now)) }
+    ensures { ReadsAs result (spec.some_terms context.now.stop (table context.now) context.now.vars (places tokens.now)) }
 {
     let (tree, rest) = term_tree(context, tokens)?;
     let found = first_of(context.alloc, tree)?;
@@ -110,7 +110,7 @@ fn next_operand<'a>(
     found: Terms,
     tokens: &'a [Placed<'a>],
 ) -> ReadIn<'a, List<Term>>
-    ensures { Gives (λ x. (x.0, places x.1.now)) result (spec.next_operand context.now.stop (table context.now) context.now.vars found (places tokens.now)) }
+    ensures { ReadsAs result (spec.next_operand context.now.stop (table context.now) context.now.vars found (places tokens.now)) }
 {
     let (tree, rest) = operand_tree(context, tokens)?;
     Ok((with_tree(found, tree)?, rest))
@@ -124,7 +124,7 @@ fn more_operands<'a>(
     found: Terms,
     tokens: &'a [Placed<'a>],
 ) -> ReadIn<'a, List<Term>>
-    ensures { Gives (λ x. (x.0, places x.1.now)) result (spec.carried (spec.goes_on context.now.stop (table context.now) context.now.vars) (spec.next_operand context.now.stop (table context.now) context.now.vars) most found (places tokens.now)) }
+    ensures { ReadsAs result (spec.carried (spec.goes_on context.now.stop (table context.now) context.now.vars) (spec.next_operand context.now.stop (table context.now) context.now.vars) most found (places tokens.now)) }
 {
     if most == 0 {
         return Ok((found, tokens));
@@ -143,7 +143,7 @@ fn more_operands<'a>(
 /// One operand or more.
 #[tactic(auto, unfolding(crate::specs::SentenceReading::some_operands), using(crate::proofs::Carried::length_places))]
 fn some_operands<'a>(context: &Context<'_>, tokens: &'a [Placed<'a>]) -> ReadIn<'a, List<Term>>
-    ensures { Gives (λ x. (x.0, places x.1.now)) result (spec.some_operands context.now.stop (table context.now) context.now.vars (places tokens.now)) }
+    ensures { ReadsAs result (spec.some_operands context.now.stop (table context.now) context.now.vars (places tokens.now)) }
 {
     let (tree, rest) = operand_tree(context, tokens)?;
     let found = first_of(context.alloc, tree)?;
@@ -153,7 +153,7 @@ fn some_operands<'a>(context: &Context<'_>, tokens: &'a [Placed<'a>]) -> ReadIn<
 /// `$! A …`, if there is one.
 #[tactic(auto, unfolding(crate::specs::SentenceReading::terms_in))]
 fn terms_in<'a>(context: &Context<'_>, tokens: &'a [Placed<'a>]) -> ReadIn<'a, List<Term>>
-    ensures { Gives (λ x. (x.0, places x.1.now)) result (spec.terms_in context.now.stop (table context.now) context.now.vars (places tokens.now)) }
+    ensures { ReadsAs result (spec.terms_in context.now.stop (table context.now) context.now.vars (places tokens.now)) }
 {
     if sees(Symbol::Terms, tokens) {
         some_operands(context, behind(tokens))
@@ -171,7 +171,7 @@ fn behind_head<'a>(
     head: Head,
     tokens: &'a [Placed<'a>],
 ) -> ReadIn<'a, ProofTerm>
-    ensures { Gives (λ x. (x.0, places x.1.now)) result (spec.behind_head context.now.stop (table context.now) context.now.vars head (places tokens.now)) }
+    ensures { ReadsAs result (spec.behind_head context.now.stop (table context.now) context.now.vars head (places tokens.now)) }
 {
     let ((terms, deep), rest) = terms_in(context, tokens)?;
     let (spats, rest) = spats_in(context.alloc, context.stop, rest)?;
@@ -185,7 +185,7 @@ fn arguments_in<'a>(
     lemmas: bool,
     tokens: &'a [Placed<'a>],
 ) -> ReadIn<'a, ProofTerm>
-    ensures { Gives (λ x. (x.0, places x.1.now)) result (spec.arguments_in context.now.stop (table context.now) context.now.vars lemmas (places tokens.now)) }
+    ensures { ReadsAs result (spec.arguments_in context.now.stop (table context.now) context.now.vars lemmas (places tokens.now)) }
 {
     let (head, rest) = head_in(context.alloc, context.stop, lemmas, tokens)?;
     behind_head(context, head, rest)
@@ -197,7 +197,7 @@ fn only_head<'a>(
     lemmas: bool,
     tokens: &'a [Placed<'a>],
 ) -> ReadIn<'a, ProofTerm>
-    ensures { Gives (λ x. (x.0, places x.1.now)) result (spec.only_head context.now.stop lemmas (places tokens.now)) }
+    ensures { ReadsAs result (spec.only_head context.now.stop lemmas (places tokens.now)) }
 {
     let (head, rest) = head_in(context.alloc, context.stop, lemmas, tokens)?;
     let terms = List::new(context.alloc);
@@ -212,7 +212,7 @@ pub fn proof_term<'a>(
     lemmas: bool,
     tokens: &'a [Placed<'a>],
 ) -> ReadIn<'a, ProofTerm>
-    ensures { Gives (λ x. (x.0, places x.1.now)) result (spec.proof_term context.now.stop (table context.now) context.now.vars lemmas (places tokens.now)) }
+    ensures { ReadsAs result (spec.proof_term context.now.stop (table context.now) context.now.vars lemmas (places tokens.now)) }
 {
     if !sees(Symbol::Open, tokens) {
         return only_head(context, lemmas, tokens);

@@ -1,8 +1,9 @@
 //! Whole sentences.
 
 ghost use Rattle.std.specs.Prelude.{◌≡◌, ◌+◌, ◌<◌, ◌≤◌, ◌^◌, length, None};
+ghost use Rattle.pm_logic.specs.declared.limits.TheConstants.{MAX_NAMES, MAX_SENTENCE, MAX_TABLE};
 ghost use Rattle.pm_tokens.specs.Tokens.{places};
-ghost use Rattle.pm_terms.specs.Steps.{Gives, all_of};
+ghost use Rattle.pm_terms.specs.Steps.{ReadsWhole, all_of};
 ghost use Rattle.pm_script.specs.SentenceReading.{sentence_in, sentence_of, read_sentence};
 
 use crate::sentence::Sentence;
@@ -20,9 +21,9 @@ fn all_in(
     end: usize,
     tokens: &[Placed<'_>],
 ) -> Result<(Sentence, Option<u64>), TextFault>
-    requires short { length tokens.now ≤ 100000000 }
+    requires short { length tokens.now ≤ MAX_SENTENCE }
     requires outside { context.now.own ≡ None }
-    ensures { Gives (λ s. s) result (all_of end context.now.stop (sentence_in context.now.stop context.now.preds.now context.now.vars (places tokens.now))) }
+    ensures { ReadsWhole result (all_of end context.now.stop (sentence_in context.now.stop context.now.preds.now context.now.vars (places tokens.now))) }
 {
     let (read, rest) = sentence_in(context, tokens)?;
     if is_whole(end, context.stop, rest) {
@@ -39,9 +40,9 @@ fn whole_sentence(
     end: usize,
     tokens: &[Placed<'_>],
 ) -> Result<Sentence, TextFault>
-    requires short { length tokens.now ≤ 100000000 }
+    requires short { length tokens.now ≤ MAX_SENTENCE }
     requires outside { context.now.own ≡ None }
-    ensures { Gives (λ s. s) result (sentence_of context.now.preds.now context.now.vars end context.now.stop (places tokens.now)) }
+    ensures { ReadsWhole result (sentence_of context.now.preds.now context.now.vars end context.now.stop (places tokens.now)) }
 {
     let (sentence, deep) = all_in(context, end, tokens)?;
     match deep {
@@ -51,7 +52,7 @@ fn whole_sentence(
 }
 
 impl Readable for Sentence {
-    ghost most = { 100000000 };
+    ghost most = { MAX_SENTENCE };
 
     ghost whole = { sentence_of };
 
@@ -76,10 +77,10 @@ pub fn read_sentence(
     preds: &Preds,
 ) -> Result<Sentence, TextFault>
     requires place { base + length text.now < 2 ^ 64 }
-    requires short { length text.now ≤ 100000000 }
-    requires few_vars { length vars.now ≤ 999000 }
-    requires few_preds { length preds.now.list ≤ 1000000 }
-    ensures { Gives (λ s. s) result (read_sentence base preds.now.list vars.now text.now) }
+    requires short { length text.now ≤ MAX_SENTENCE }
+    requires few_vars { length vars.now ≤ MAX_NAMES }
+    requires few_preds { length preds.now.list ≤ MAX_TABLE }
+    ensures { ReadsWhole result (read_sentence base preds.now.list vars.now text.now) }
 {
     read_text(alloc, text, base, vars, preds)
 }

@@ -1,5 +1,7 @@
 //! Sentences of a script.
 
+ghost use Rattle.std.specs.Prelude.{◌≡◌};
+
 use crate::directive::Directive;
 use pm_logic::{Formula, List, Name};
 
@@ -26,6 +28,38 @@ pub enum Sentence {
     /// `}`
     Leave,
     Directive(Directive),
+}
+
+/// What a sentence states, taken apart.
+#[derive(Drop)]
+pub enum Stated {
+    Predicate {
+        name: Name,
+        params: List<Name>,
+        body: Formula,
+    },
+    Lemma {
+        name: Name,
+        statement: Formula,
+    },
+}
+
+impl Sentence {
+    ghost use Rattle.pm_script.specs.Stating.{stated_of};
+
+    /// What the sentence states, where it states a predicate or a lemma, and else the sentence itself.
+    #[tactic(auto, unfolding(crate::specs::Stating::stated_of))]
+    pub fn into_stated(self) -> Result<Stated, Sentence>
+        ensures { result ≡ stated_of self }
+    {
+        match self {
+            Sentence::Predicate { name, params, body } => {
+                Ok(Stated::Predicate { name, params, body })
+            }
+            Sentence::Lemma { name, statement } => Ok(Stated::Lemma { name, statement }),
+            other => Err(other),
+        }
+    }
 }
 
 // Written out, since a contract then sees one call where a value is let go, and not the layout of the sentence.

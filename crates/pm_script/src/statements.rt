@@ -1,9 +1,10 @@
 //! Sentences, from their first word on.
 
 ghost use Rattle.std.specs.Prelude.{◌≡◌, ◌≤◌, ◌<◌, [], length, None};
+ghost use Rattle.pm_logic.specs.declared.limits.TheConstants.{MAX_SENTENCE};
 ghost use Rattle.pm_tokens.specs.Tokens.{places};
 ghost use Rattle.pm_terms.specs.Scope.{callables};
-ghost use Rattle.pm_terms.specs.Steps.{Gives};
+ghost use Rattle.pm_terms.specs.Steps.{ReadsAs};
 ghost use Rattle.pm_text.specs.declared.level.Level.TheVariants.{Wands};
 ghost use Rattle.pm_text.specs.FormulaReading.{formula_in};
 ghost use Rattle.pm_script.specs.Words.{form_of, sentence_form_of};
@@ -12,9 +13,9 @@ ghost use Rattle.pm_script.specs.SentenceReading as spec;
 use crate::directives::directive_in;
 use crate::predicates::{ReadSentence, predicate};
 use crate::sentence::Sentence;
-use crate::trees::{ROOM, ReadFormula, ReadIn, formula_at, measured};
+use crate::trees::{ReadFormula, ReadIn, formula_at, measured};
 use crate::words::{SentenceForm, form_of, sentence_form_of};
-use pm_logic::{Formula, wand};
+use pm_logic::{Formula, MAX_LEVELS, wand};
 use pm_name_sets::NameIndex;
 use pm_patterns::name_in;
 use pm_terms::{Context, TextFault, behind, expect, read_natural, sees, unexpected};
@@ -23,7 +24,7 @@ use pm_tokens::{Placed, Symbol, Token};
 /// A formula with no variables, before which so many constructs may be opened.
 fn closed_formula<'a>(context: &Context<'_>, room: u32, tokens: &'a [Placed<'a>]) -> ReadFormula<'a>
     requires { room < 1000 }
-    ensures { Gives (λ x. (x.0, places x.1.now)) result (formula_in context.now.stop (callables 0 context.now.preds.now) room Wands [] (places tokens.now)) }
+    ensures { ReadsAs result (formula_in context.now.stop (callables 0 context.now.preds.now) room Wands [] (places tokens.now)) }
 {
     let inside = Context {
         alloc: context.alloc,
@@ -38,27 +39,27 @@ fn closed_formula<'a>(context: &Context<'_>, room: u32, tokens: &'a [Placed<'a>]
 /// `⊢ F` behind a formula, if it stands there.
 #[tactic(auto, unfolding(crate::specs::SentenceReading::conclusion))]
 fn conclusion<'a>(context: &Context<'_>, f: Formula, tokens: &'a [Placed<'a>]) -> ReadFormula<'a>
-    ensures { Gives (λ x. (x.0, places x.1.now)) result (spec.conclusion context.now.stop context.now.preds.now context.now.vars f (places tokens.now)) }
+    ensures { ReadsAs result (spec.conclusion context.now.stop context.now.preds.now context.now.vars f (places tokens.now)) }
 {
     if !sees(Symbol::Entails, tokens) {
         return Ok((f, tokens));
     }
-    let (g, rest) = closed_formula(context, ROOM - 1, behind(tokens))?;
+    let (g, rest) = closed_formula(context, MAX_LEVELS - 1, behind(tokens))?;
     Ok((wand(context.alloc, f, g)?, rest))
 }
 
 /// `F` or `F ⊢ F`, with no variables.
 #[tactic(auto, unfolding(crate::specs::SentenceReading::statement))]
 fn statement<'a>(context: &Context<'_>, tokens: &'a [Placed<'a>]) -> ReadFormula<'a>
-    ensures { Gives (λ x. (x.0, places x.1.now)) result (spec.statement context.now.stop context.now.preds.now context.now.vars (places tokens.now)) }
+    ensures { ReadsAs result (spec.statement context.now.stop context.now.preds.now context.now.vars (places tokens.now)) }
 {
-    let (f, rest) = closed_formula(context, ROOM, tokens)?;
+    let (f, rest) = closed_formula(context, MAX_LEVELS, tokens)?;
     conclusion(context, f, rest)
 }
 
 #[tactic(auto, unfolding(crate::specs::SentenceReading::statement_tree))]
 fn statement_tree<'a>(context: &Context<'_>, tokens: &'a [Placed<'a>]) -> ReadIn<'a, Formula>
-    ensures { Gives (λ x. (x.0, places x.1.now)) result (spec.statement_tree context.now.stop context.now.preds.now context.now.vars (places tokens.now)) }
+    ensures { ReadsAs result (spec.statement_tree context.now.stop context.now.preds.now context.now.vars (places tokens.now)) }
 {
     let (f, rest) = statement(context, tokens)?;
     Ok((measured(f, context.stop, tokens), rest))
@@ -67,7 +68,7 @@ fn statement_tree<'a>(context: &Context<'_>, tokens: &'a [Placed<'a>]) -> ReadIn
 /// `n : F` or `n : F ⊢ F`.
 #[tactic(auto, unfolding(crate::specs::SentenceReading::lemma))]
 fn lemma<'a>(context: &Context<'_>, tokens: &'a [Placed<'a>]) -> ReadSentence<'a>
-    ensures { Gives (λ x. (x.0, places x.1.now)) result (spec.lemma context.now.stop context.now.preds.now context.now.vars (places tokens.now)) }
+    ensures { ReadsAs result (spec.lemma context.now.stop context.now.preds.now context.now.vars (places tokens.now)) }
 {
     let (name, rest) = name_in(context.alloc, context.stop, tokens)?;
     let rest = expect(Symbol::Colon, context.stop, rest)?;
@@ -78,7 +79,7 @@ fn lemma<'a>(context: &Context<'_>, tokens: &'a [Placed<'a>]) -> ReadSentence<'a
 /// A number of steps, one where none is named.
 #[tactic(auto, unfolding(crate::specs::SentenceReading::undo))]
 fn undo<'a>(context: &Context<'_>, tokens: &'a [Placed<'a>]) -> ReadSentence<'a>
-    ensures { Gives (λ x. (x.0, places x.1.now)) result (spec.undo context.now.stop context.now.preds.now context.now.vars (places tokens.now)) }
+    ensures { ReadsAs result (spec.undo context.now.stop context.now.preds.now context.now.vars (places tokens.now)) }
 {
     match tokens {
         [] => Ok(((Sentence::Undo(1), None), tokens)),
@@ -96,8 +97,8 @@ fn formed<'a>(
     form: SentenceForm,
     tokens: &'a [Placed<'a>],
 ) -> ReadSentence<'a>
-    requires { length tokens.now ≤ 100000000 }
-    ensures { Gives (λ x. (x.0, places x.1.now)) result (spec.formed context.now.stop context.now.preds.now context.now.vars form (places tokens.now)) }
+    requires { length tokens.now ≤ MAX_SENTENCE }
+    ensures { ReadsAs result (spec.formed context.now.stop context.now.preds.now context.now.vars form (places tokens.now)) }
 {
     match form {
         SentenceForm::Predicate => predicate(context, tokens),
@@ -119,7 +120,7 @@ fn directive<'a>(
     tokens: &'a [Placed<'a>],
 ) -> ReadSentence<'a>
     requires { context.now.own ≡ None }
-    ensures { Gives (λ x. (x.0, places x.1.now)) result (spec.directive_by context.now.stop context.now.preds.now context.now.vars at (form_of word.now) (places tokens.now)) }
+    ensures { ReadsAs result (spec.directive_by context.now.stop context.now.preds.now context.now.vars at (form_of word.now) (places tokens.now)) }
 {
     match form_of(word) {
         Some(form) => {
@@ -137,9 +138,9 @@ fn worded<'a>(
     word: &[u8],
     tokens: &'a [Placed<'a>],
 ) -> ReadSentence<'a>
-    requires short { length tokens.now ≤ 100000000 }
+    requires short { length tokens.now ≤ MAX_SENTENCE }
     requires outside { context.now.own ≡ None }
-    ensures { Gives (λ x. (x.0, places x.1.now)) result (spec.sentence_by context.now.stop context.now.preds.now context.now.vars at word.now (sentence_form_of word.now) (places tokens.now)) }
+    ensures { ReadsAs result (spec.sentence_by context.now.stop context.now.preds.now context.now.vars at word.now (sentence_form_of word.now) (places tokens.now)) }
 {
     match sentence_form_of(word) {
         Some(form) => formed(context, form, tokens),
@@ -150,7 +151,7 @@ fn worded<'a>(
 /// A brace.
 #[tactic(auto, unfolding(crate::specs::SentenceReading::brace_in))]
 fn brace_in<'a>(stop: usize, tokens: &'a [Placed<'a>]) -> ReadSentence<'a>
-    ensures { Gives (λ x. (x.0, places x.1.now)) result (spec.brace_in stop (places tokens.now)) }
+    ensures { ReadsAs result (spec.brace_in stop (places tokens.now)) }
 {
     if sees(Symbol::OpenBrace, tokens) {
         Ok(((Sentence::Enter, None), behind(tokens)))
@@ -164,9 +165,9 @@ fn brace_in<'a>(stop: usize, tokens: &'a [Placed<'a>]) -> ReadSentence<'a>
 /// A sentence outside the body of a predicate.
 #[tactic(auto, unfolding(crate::specs::SentenceReading::sentence_in))]
 pub fn sentence_in<'a>(context: &Context<'_>, tokens: &'a [Placed<'a>]) -> ReadSentence<'a>
-    requires short { length tokens.now ≤ 100000000 }
+    requires short { length tokens.now ≤ MAX_SENTENCE }
     requires outside { context.now.own ≡ None }
-    ensures { Gives (λ x. (x.0, places x.1.now)) result (spec.sentence_in context.now.stop context.now.preds.now context.now.vars (places tokens.now)) }
+    ensures { ReadsAs result (spec.sentence_in context.now.stop context.now.preds.now context.now.vars (places tokens.now)) }
 {
     let [first, rest @ ..] = tokens else {
         return Err(TextFault::Unexpected(context.stop as u64));

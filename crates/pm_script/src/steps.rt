@@ -2,7 +2,7 @@
 
 ghost use Rattle.std.specs.Prelude.{◌≡◌};
 ghost use Rattle.pm_tokens.specs.Tokens.{places};
-ghost use Rattle.pm_terms.specs.Steps.{Answers};
+ghost use Rattle.pm_terms.specs.Steps.{LeavesExactly};
 ghost use Rattle.pm_script.specs.SentenceReading.{sees_word, sees_keyword, expect_word};
 
 use pm_terms::{TextFault, behind, sees, unexpected};
@@ -38,7 +38,7 @@ pub fn expect_word<'a>(
     stop: usize,
     tokens: &'a [Placed<'a>],
 ) -> Result<&'a [Placed<'a>], TextFault>
-    ensures { Answers (λ r. places r.now) result (expect_word stop word.now (places tokens.now)) }
+    ensures { LeavesExactly result (expect_word stop word.now (places tokens.now)) }
 {
     if sees_word(word, tokens) {
         Ok(behind(tokens))

@@ -1,9 +1,10 @@
 -- Directives that are read are derived by the grammar.
-use Rattle.std.proofs.Common.{◌≡◌, ◌⊎◌, inl, inr, ℕ, Bool, true, false, List, [], ◌∷◌, ◌++◌, map, Option, Some, None, Ok, refl, sym, ap, subst, ◌∙◌, append-nil}
+use Rattle.std.proofs.Common.{◌≡◌, ◌⊎◌, inl, inr, ℕ, ◌-◌, Bool, true, false, List, [], ◌∷◌, ◌++◌, map, Option, Some, None, Ok, refl, sym, ap, subst, ◌∙◌, append-nil}
 use Rattle.std.specs.Prelude.{codes}
 use Rattle.std.specs.List.{AllByRecursion}
 use Rattle.std.specs.Str.{bytes_eq}
 use Rattle.std.proofs.lemmas.Slice.Eq.{bytes_eq-Decides}
+use Rattle.pm_logic.specs.declared.limits.TheConstants.{MAX_LEVELS}
 use Rattle.pm_logic.specs.declared.formula.Term.{Term}
 use Rattle.pm_tokens.specs.declared.symbol.Symbol.TheVariants as s
 use Rattle.pm_tokens.specs.Tokens.{Token, name, Place}
@@ -126,8 +127,8 @@ module _ (stop : ℕ) (preds : Callables) (names : Names) where
 
   combine_sound : Sound (D (bytes "iCombine")) (combine stop)
   unfolding combine quoted_two Two
-  combine_sound = followed {P = Quoted Two} {Q = λ both ys r. (p : Pat) × Worded (bytes "as") (Quoted (IsOne stop preds names)) ys p × (r ≡ d.Combine both.0 both.1 p)} {R = D (bytes "iCombine")} {next = λ both ts. made (d.Combine both.0 both.1) (as_pattern stop 200 ts)} (quotes stop two_sound)
-      (λ both. changed (d.Combine both.0 both.1) (as_pattern_sound stop preds names 200) (λ ys p k. (p, k, refl)))
+  combine_sound = followed {P = Quoted Two} {Q = λ both ys r. (p : Pat) × Worded (bytes "as") (Quoted (IsOne stop preds names)) ys p × (r ≡ d.Combine both.0 both.1 p)} {R = D (bytes "iCombine")} {next = λ both ts. made (d.Combine both.0 both.1) (as_pattern stop MAX_LEVELS ts)} (quotes stop two_sound)
+      (λ both. changed (d.Combine both.0 both.1) (as_pattern_sound stop preds names MAX_LEVELS) (λ ys p k. (p, k, refl)))
       (λ us ys both r p q. subst (D (bytes "iCombine") (us ++ ys)) (sym q.2)
       (written (bytes "iCombine") (us ++ ys) (in_quotes (name both.0 ∷ name both.1 ∷ []) ++ name (bytes "as") ∷ in_quotes q.1.2.0) (d.Combine both.0 both.1 q.0) (both_are (p.1 ∙ ap in_quotes p.2) (q.1.1 ∙ ap (λ (ts : List Token). name (bytes "as") ∷ ts) q.1.2.1)) (g.combine both.0 both.1 q.1.2.2)))
 
@@ -180,11 +181,11 @@ module _ (stop : ℕ) (preds : Callables) (names : Names) where
 
   pose_row : Row (bytes "iPoseProof") form.PoseProof
   unfolding directive_in pose_proof
-  pose_row = then_sound (D (bytes "iPoseProof")) d.PoseProof (proof_term_sound stop preds names true) (as_pattern_sound stop preds names 200) (λ xs ys t p k q. written (bytes "iPoseProof") (xs ++ ys) _ (d.PoseProof t p) (as_quoted xs ys p q) (g.pose_proof k.0 q.2.2))
+  pose_row = then_sound (D (bytes "iPoseProof")) d.PoseProof (proof_term_sound stop preds names true) (as_pattern_sound stop preds names MAX_LEVELS) (λ xs ys t p k q. written (bytes "iPoseProof") (xs ++ ys) _ (d.PoseProof t p) (as_quoted xs ys p q) (g.pose_proof k.0 q.2.2))
 
   eliminate_row : Row (bytes "iMod") form.Mod
   unfolding directive_in eliminate
-  eliminate_row = then_sound (D (bytes "iMod")) d.Mod (proof_term_sound stop preds names true) (as_pattern_sound stop preds names 199) (λ xs ys t p k q. written (bytes "iMod") (xs ++ ys) _ (d.Mod t p) (as_quoted xs ys p q) (g.eliminate k.0 q.2.2))
+  eliminate_row = then_sound (D (bytes "iMod")) d.Mod (proof_term_sound stop preds names true) (as_pattern_sound stop preds names (MAX_LEVELS - 1)) (λ xs ys t p k q. written (bytes "iMod") (xs ++ ys) _ (d.Mod t p) (as_quoted xs ys p q) (g.eliminate k.0 q.2.2))
 
   specialize_row : Row (bytes "iSpecialize") form.Specialize
   unfolding directive_in specialize

@@ -1,6 +1,7 @@
 -- Directives that the grammar derives are read, unless they are too deep.
-use Rattle.std.proofs.Common.{◌≡◌, inl, ℕ, suc, ◌≤◌, Bool, true, false, List, [], ◌∷◌, ◌++◌, length, map, Option, Some, None, Ok, refl, sym, ap, subst, ◌∙◌, append-nil, arith}
+use Rattle.std.proofs.Common.{◌≡◌, inl, ℕ, suc, ◌≤◌, ◌-◌, Bool, true, false, List, [], ◌∷◌, ◌++◌, length, map, Option, Some, None, Ok, refl, sym, ap, subst, ◌∙◌, append-nil, arith}
 use Rattle.std.specs.Prelude.{codes}
+use Rattle.pm_logic.specs.declared.limits.TheConstants.{MAX_LEVELS}
 use Rattle.pm_logic.specs.declared.formula.Term.{Term}
 use Rattle.pm_logic.specs.declared.formula.Pure.{Pure}
 use Rattle.pm_logic.specs.declared.formula.Formula.{Formula}
@@ -81,12 +82,12 @@ module _ (stop : ℕ) (preds : Callables) (names : Names) where
   Marked ys a = (zs us : List Token) × (ys ≡ name (bytes "with") ∷ (in_quotes zs ++ name (bytes "as") ∷ in_quotes us)) × IsPremise stop zs a.0 × IsOne stop preds names us a.1
 
   abbrev behind_marker : List Place → Read (Spat × Pat)
-  behind_marker ts = behind_word stop (codes "with") (quoted_premise stop) ts >>= λ how. made (λ p. (how.0, p)) (as_pattern stop 200 how.1)
+  behind_marker ts = behind_word stop (codes "with") (quoted_premise stop) ts >>= λ how. made (λ p. (how.0, p)) (as_pattern stop MAX_LEVELS how.1)
 
   c_marked : Complete Marked Any behind_marker
-  c_marked = c_followed {P = Worded (bytes "with") (Quoted (IsPremise stop))} {Q = λ how ys a. (us : List Token) × (ys ≡ name (bytes "as") ∷ in_quotes us) × IsOne stop preds names us a.1 × (a.0 ≡ how)} {R = Marked} {E = Any} {F = Any} {next = λ how ts. made (λ p. (how, p)) (as_pattern stop 200 ts)}
+  c_marked = c_followed {P = Worded (bytes "with") (Quoted (IsPremise stop))} {Q = λ how ys a. (us : List Token) × (ys ≡ name (bytes "as") ∷ in_quotes us) × IsOne stop preds names us a.1 × (a.0 ≡ how)} {R = Marked} {E = Any} {F = Any} {next = λ how ts. made (λ p. (how, p)) (as_pattern stop MAX_LEVELS ts)}
       (c_worded stop (codes "with") (bytes "with") with_word (c_quoted_premise stop))
-      (λ how. c_changed (λ p. (how, p)) (c_as_pattern 200) (λ ys a k. (a.1, (in_quotes k.0, k.1, (k.0, refl, k.2)), ap (λ (h : Spat). (h, a.1)) k.3)))
+      (λ how. c_changed (λ p. (how, p)) (c_as_pattern MAX_LEVELS) (λ ys a k. (a.1, (in_quotes k.0, k.1, (k.0, refl, k.2)), ap (λ (h : Spat). (h, a.1)) k.3)))
       (λ zs a k. record { left = name (bytes "with") ∷ in_quotes k.0; right = name (bytes "as") ∷ in_quotes k.1; value = a.0; whole = k.2; first = (in_quotes k.0, refl, (k.0, refl, k.3)); second = (k.1, refl, k.4, refl); between = λ o rest e. tt })
 
   no_marker : (at : ℕ) (ts : List Place) → sees s.Intuitionistic (place (name (bytes "with")) at ∷ ts) ≡ false
@@ -115,9 +116,9 @@ module _ (stop : ℕ) (preds : Callables) (names : Names) where
 
   c_allocated : Complete Allocated Any (allocated stop)
   unfolding allocated
-  c_allocated = c_followed {P = Worded (bytes "as") (Within s.Open s.Close (Spelled name_as))} {Q = λ w ys a. (us : List Token) × (ys ≡ in_quotes us) × IsOne stop preds names us a.1 × (a.0 ≡ w)} {R = Allocated} {E = Any} {F = Any} {next = λ w ts. made (λ p. (w, p)) (quoted_pattern stop 200 ts)}
+  c_allocated = c_followed {P = Worded (bytes "as") (Within s.Open s.Close (Spelled name_as))} {Q = λ w ys a. (us : List Token) × (ys ≡ in_quotes us) × IsOne stop preds names us a.1 × (a.0 ≡ w)} {R = Allocated} {E = Any} {F = Any} {next = λ w ts. made (λ p. (w, p)) (quoted_pattern stop MAX_LEVELS ts)}
       (c_worded stop (codes "as") (bytes "as") as_word c_grouped_name)
-      (λ w. c_changed (λ p. (w, p)) (c_quoted_pattern stop 200) (λ ys a k. (a.1, (k.0, k.1, k.2), ap (λ (v : List ℕ). (v, a.1)) k.3)))
+      (λ w. c_changed (λ p. (w, p)) (c_quoted_pattern stop MAX_LEVELS) (λ ys a k. (a.1, (k.0, k.1, k.2), ap (λ (v : List ℕ). (v, a.1)) k.3)))
       (λ zs a k. record { left = name (bytes "as") ∷ in_parentheses (name a.0 ∷ []); right = in_quotes k.0; value = a.0; whole = k.1; first = (in_parentheses (name a.0 ∷ []), refl, (name a.0 ∷ [], refl, refl)); second = (k.0, refl, k.2, refl); between = λ o rest e. tt })
 
   -- ---- what is read of a directive's tokens, at their end
@@ -212,8 +213,8 @@ module _ (stop : ℕ) (preds : Callables) (names : Names) where
   unfolding plain_in combine
   combine_read x y ts p is o =
       let xs : List Token = in_quotes (name x ∷ name y ∷ []) in
-      two_okay (quoted_two stop) (λ q. made (d.Combine q.0.0 q.0.1) (as_pattern stop 200 q.1)) o xs (name (bytes "as") ∷ in_quotes ts) (x, y) (d.Combine x y p) (quoted_two_read x y o)
-      (made_okay (d.Combine x y) (as_pattern stop 200 (put (skip xs o) (name (bytes "as") ∷ in_quotes ts) ++ [])) p [] ((c_as_pattern 200).ok (skip xs o) (name (bytes "as") ∷ in_quotes ts) p [] (in_quotes ts, refl, (ts, refl, is)) tt))
+      two_okay (quoted_two stop) (λ q. made (d.Combine q.0.0 q.0.1) (as_pattern stop MAX_LEVELS q.1)) o xs (name (bytes "as") ∷ in_quotes ts) (x, y) (d.Combine x y p) (quoted_two_read x y o)
+      (made_okay (d.Combine x y) (as_pattern stop MAX_LEVELS (put (skip xs o) (name (bytes "as") ∷ in_quotes ts) ++ [])) p [] ((c_as_pattern MAX_LEVELS).ok (skip xs o) (name (bytes "as") ∷ in_quotes ts) p [] (in_quotes ts, refl, (ts, refl, is)) tt))
 
   rewrite_by_read : (back : Bool) (x : List ℕ) (ys : List Token) (q : Option (List ℕ)) → IfAny (Worded (bytes "in") (Quoted (Spelled name_as))) ys q → (o : ℕ → ℕ) → Okay (rewrite_by stop back (put o (g.quoted x ++ ys) ++ [])) (d.Rewrite back x q, [])
   unfolding rewrite_by
@@ -300,11 +301,11 @@ module _ (stop : ℕ) (preds : Callables) (names : Names) where
 
   pose_read : (xs ys : List Token) (t : ProofTerm) (p : Pat) → ProofTermOf stop preds names true xs t → IsOne stop preds names ys p → ReadAs form.PoseProof (xs ++ name (bytes "as") ∷ in_quotes ys) (d.PoseProof t p)
   unfolding directive_in pose_proof
-  pose_read xs ys t p is k o = (then_as d.PoseProof (t_proof_term stop preds names true) (c_as_pattern 200)).ok o (xs ++ name (bytes "as") ∷ in_quotes ys) (d.PoseProof t p) [] (xs, name (bytes "as") ∷ in_quotes ys, t, p, refl, is, as_quoted ys p k, refl) tt
+  pose_read xs ys t p is k o = (then_as d.PoseProof (t_proof_term stop preds names true) (c_as_pattern MAX_LEVELS)).ok o (xs ++ name (bytes "as") ∷ in_quotes ys) (d.PoseProof t p) [] (xs, name (bytes "as") ∷ in_quotes ys, t, p, refl, is, as_quoted ys p k, refl) tt
 
   eliminate_read : (xs ys : List Token) (t : ProofTerm) (p : Pat) → ProofTermOf stop preds names true xs t → IsOne stop preds names ys p → ReadAs form.Mod (xs ++ name (bytes "as") ∷ in_quotes ys) (d.Mod t p)
   unfolding directive_in eliminate
-  eliminate_read xs ys t p is k o = (then_as d.Mod (t_proof_term stop preds names true) (c_as_pattern 199)).ok o (xs ++ name (bytes "as") ∷ in_quotes ys) (d.Mod t p) [] (xs, name (bytes "as") ∷ in_quotes ys, t, p, refl, is, as_quoted ys p k, refl) tt
+  eliminate_read xs ys t p is k o = (then_as d.Mod (t_proof_term stop preds names true) (c_as_pattern (MAX_LEVELS - 1))).ok o (xs ++ name (bytes "as") ∷ in_quotes ys) (d.Mod t p) [] (xs, name (bytes "as") ∷ in_quotes ys, t, p, refl, is, as_quoted ys p k, refl) tt
 
   specialize_read : (xs : List Token) (t : ProofTerm) → ProofTermOf stop preds names false xs t → ReadAs form.Specialize xs (d.Specialize t)
   unfolding directive_in specialize

@@ -1,5 +1,6 @@
 -- What is read of a sentence is in range.
-use Rattle.std.proofs.Common.{◌≡◌, ℕ, ◌≤◌, Bool, true, false, ◌&&◌, ◌==◌, leb, leb-true, List, [], ◌∷◌, drop, length, Option, Some, None, Result, Ok, Err, refl, sym, ap, subst, ◌∙◌}
+use Rattle.std.proofs.Common.{◌≡◌, ℕ, ◌≤◌, ◌-◌, Bool, true, false, ◌&&◌, ◌==◌, leb, leb-true, List, [], ◌∷◌, drop, length, Option, Some, None, Result, Ok, Err, refl, sym, ap, subst, ◌∙◌}
+use Rattle.pm_logic.specs.declared.limits.TheConstants.{MAX_LEVELS}
 use Rattle.pm_logic.specs.declared.formula.Formula.{Formula}
 use Rattle.pm_logic.specs.declared.formula.Formula.TheViews as formula
 use Rattle.pm_logic.specs.declared.formula.Formula.TheBlock as block
@@ -45,11 +46,11 @@ named_in stop (place (symbol r) at ∷ ts) x h e = absurd cc
 
 -- ---- trees
 
-depth_ok : (depth at : ℕ) → too_deep depth at ≡ None → depth ≤ 200
-depth_ok depth at e = go (leb depth 200) refl
+depth_ok : (depth at : ℕ) → too_deep depth at ≡ None → depth ≤ MAX_LEVELS
+depth_ok depth at e = go (leb depth MAX_LEVELS) refl
   where
-    go : (b : Bool) → leb depth 200 ≡ b → depth ≤ 200
-    go true h = leb-true depth 200 h
+    go : (b : Bool) → leb depth MAX_LEVELS ≡ b → depth ≤ MAX_LEVELS
+    go true h = leb-true depth MAX_LEVELS h
     go false h = let some : too_deep depth at ≡ Some at = rw h refl in absurd cc
 
 module _ (arities : List ℕ) (stop : ℕ) (preds : Callables) (listed : AreListed arities preds) where
@@ -58,13 +59,13 @@ module _ (arities : List ℕ) (stop : ℕ) (preds : Callables) (listed : AreList
       let d = parts.formulas stop room preds names ts x.1 x.0 e in
       formula_fits arities preds listed names Wands d.0 d.1.0 x.0 d.1.2
 
-  tree_fits : (names : Names) (ts : List Place) (x : (Formula × Deeps) × List Place) → formula_tree stop preds names ts ≡ Ok x → x.0.1 ≡ None → InRange arities (length names) x.0.0 × (depth_of x.0.0 ≤ 200)
+  tree_fits : (names : Names) (ts : List Place) (x : (Formula × Deeps) × List Place) → formula_tree stop preds names ts ≡ Ok x → x.0.1 ≡ None → InRange arities (length names) x.0.0 × (depth_of x.0.0 ≤ MAX_LEVELS)
   unfolding formula_tree
   tree_fits names ts x e none =
-      let m = made_ok (λ f. (f, too_deep (depth_of f) (offset stop ts))) (formula_in stop preds 200 Wands names ts) x e in
+      let m = made_ok (λ f. (f, too_deep (depth_of f) (offset stop ts))) (formula_in stop preds MAX_LEVELS Wands names ts) x e in
       let same : m.0 ≡ x.0.0 = ap (λ y. y.0) m.2 in
       let deep : too_deep (depth_of m.0) (offset stop ts) ≡ None = ap (λ y. y.1) m.2 ∙ none in
-      subst (λ f. InRange arities (length names) f × (depth_of f ≤ 200)) same (read_fits 200 names ts (m.0, x.1) m.1, depth_ok (depth_of m.0) (offset stop ts) deep)
+      subst (λ f. InRange arities (length names) f × (depth_of f ≤ MAX_LEVELS)) same (read_fits MAX_LEVELS names ts (m.0, x.1) m.1, depth_ok (depth_of m.0) (offset stop ts) deep)
 
 -- ---- sentences
 
@@ -80,12 +81,12 @@ module _ (stop : ℕ) (preds : List Pred) (names : Names) where
   statement_fits : (ts : List Place) (x : Formula × List Place) → statement stop preds names ts ≡ Ok x → InRange (arities_of preds) 0 x.0
   unfolding block.shape-the_row-Formula-0 block.hidden-the_row-Formula-0 carrier.hidden statement conclusion InRange
   statement_fits ts x e =
-      let b = bind_ok (formula_in stop (callables 0 preds) 200 Wands [] ts) (λ f. conclusion stop preds names f.0 f.1) x e in
-      let first = read_fits (arities_of preds) stop (callables 0 preds) (derived_fits.table preds) 200 [] ts b.0 b.1 in
+      let b = bind_ok (formula_in stop (callables 0 preds) MAX_LEVELS Wands [] ts) (λ f. conclusion stop preds names f.0 f.1) x e in
+      let first = read_fits (arities_of preds) stop (callables 0 preds) (derived_fits.table preds) MAX_LEVELS [] ts b.0 b.1 in
       either (sees s.Entails b.0.1) _ _ _ b.2 (InRange (arities_of preds) 0 x.0)
       (λ there k.
-      let m = made_ok (formula.Wand b.0.0) (formula_in stop (callables 0 preds) 199 Wands [] (drop 1 b.0.1)) x k in
-      subst (InRange (arities_of preds) 0) m.2 (first, read_fits (arities_of preds) stop (callables 0 preds) (derived_fits.table preds) 199 [] (drop 1 b.0.1) (m.0, x.1) m.1))
+      let m = made_ok (formula.Wand b.0.0) (formula_in stop (callables 0 preds) (MAX_LEVELS - 1) Wands [] (drop 1 b.0.1)) x k in
+      subst (InRange (arities_of preds) 0) m.2 (first, read_fits (arities_of preds) stop (callables 0 preds) (derived_fits.table preds) (MAX_LEVELS - 1) [] (drop 1 b.0.1) (m.0, x.1) m.1))
       (λ alone k. ok_to (λ (y : Formula × List Place). InRange (arities_of preds) 0 y.0) b.0 x k first)
 
   lemma_fits : (ts : List Place) (x : Read) → are_named ts ≡ true → lemma stop preds names ts ≡ Ok x → x.0.1 ≡ None → Fits preds x.0.0

@@ -3,6 +3,7 @@ use Rattle.std.proofs.Common.{◌≡◌, ℕ, zero, suc, Bool, true, false, cond
 use Rattle.std.specs.Prelude.{codes}
 use lib.Utf8.{encode}
 use Rattle.std.proofs.lemmas.Slice.Eq.{bytes_eq-Decides}
+use Rattle.pm_logic.specs.declared.limits.TheConstants.{MAX_LEVELS}
 use Rattle.pm_logic.specs.declared.formula.Term.{Term}
 use Rattle.pm_logic.specs.declared.formula.Formula.{Formula}
 use Rattle.pm_logic.specs.Size.{term_depth, pure_depth, depth_of}
@@ -116,8 +117,8 @@ module _ (stop : ℕ) (preds : Callables) (names : Names) where
   unfolding term_tree
   term_tree_sound = record {
     ok = λ ts x e.
-        let m = made_ok (λ t. (t, too_deep (term_depth t) (offset stop ts))) (sum_in stop names 200 ts) x e in
-        let d = parts.terms stop 200 names ts x.1 m.0 m.1 in
+        let m = made_ok (λ t. (t, too_deep (term_depth t) (offset stop ts))) (sum_in stop names MAX_LEVELS ts) x e in
+        let d = parts.terms stop MAX_LEVELS names ts x.1 m.0 m.1 in
         record { before = d.0; split = d.1; is = subst (IsTerm names sum d.0) (ap (λ y. y.0) m.2) d.2 };
   }
 
@@ -125,8 +126,8 @@ module _ (stop : ℕ) (preds : Callables) (names : Names) where
   unfolding operand_tree
   operand_tree_sound = record {
     ok = λ ts x e.
-        let m = made_ok (λ t. (t, too_deep (term_depth t) (offset stop ts))) (operand_in stop names 200 ts) x e in
-        let d = parts.operands stop 200 names ts x.1 m.0 m.1 in
+        let m = made_ok (λ t. (t, too_deep (term_depth t) (offset stop ts))) (operand_in stop names MAX_LEVELS ts) x e in
+        let d = parts.operands stop MAX_LEVELS names ts x.1 m.0 m.1 in
         record { before = d.0; split = d.1; is = subst (IsTerm names operand d.0) (ap (λ y. y.0) m.2) d.2 };
   }
 
@@ -134,8 +135,8 @@ module _ (stop : ℕ) (preds : Callables) (names : Names) where
   unfolding pure_tree
   pure_tree_sound = record {
     ok = λ ts x e.
-        let m = made_ok (λ t. (t, too_deep (pure_depth t) (offset stop ts))) (pure_in stop names 200 Ors ts) x e in
-        let d = parts.pures stop 200 names Ors ts x.1 m.0 m.1 in
+        let m = made_ok (λ t. (t, too_deep (pure_depth t) (offset stop ts))) (pure_in stop names MAX_LEVELS Ors ts) x e in
+        let d = parts.pures stop MAX_LEVELS names Ors ts x.1 m.0 m.1 in
         record { before = d.0; split = d.1; is = subst (IsPure names Ors d.0) (ap (λ y. y.0) m.2) d.2 };
   }
 
@@ -146,8 +147,8 @@ module _ (stop : ℕ) (preds : Callables) (names : Names) where
   unfolding formula_tree
   formula_tree_sound = record {
     ok = λ ts x e.
-        let m = made_ok (λ t. (t, too_deep (depth_of t) (offset stop ts))) (formula_in stop preds 200 Wands names ts) x e in
-        let d = parts.formulas stop 200 preds names ts x.1 m.0 m.1 in
+        let m = made_ok (λ t. (t, too_deep (depth_of t) (offset stop ts))) (formula_in stop preds MAX_LEVELS Wands names ts) x e in
+        let d = parts.formulas stop MAX_LEVELS preds names ts x.1 m.0 m.1 in
         record { before = d.1.0; split = d.1.1; is = subst (IsAnyFormula d.1.0) (ap (λ y. y.0) m.2) (d.0, d.1.2) };
   }
 
@@ -328,13 +329,13 @@ module _ (stop : ℕ) (preds : Callables) (names : Names) where
   Asserted ys a = (marked : Bool) × (zs us : List Token) × (ys ≡ marker_if marked ++ name (bytes "with") ∷ (in_quotes zs ++ name (bytes "as") ∷ in_quotes us)) × IsPremise stop zs a.0 × IsOne us a.1
 
   abbrev behind_marker : List Place → Read (Spat × Pat)
-  behind_marker ts = behind_word stop (codes "with") (quoted_premise stop) ts >>= λ how. made (λ p. (how.0, p)) (as_pattern stop 200 how.1)
+  behind_marker ts = behind_word stop (codes "with") (quoted_premise stop) ts >>= λ how. made (λ p. (how.0, p)) (as_pattern stop MAX_LEVELS how.1)
 
   marked_sound : Sound Marked behind_marker
   unfolding Marked
-  marked_sound = followed {P = Worded (bytes "with") (Quoted (IsPremise stop))} {Q = λ how ys a. (us : List Token) × (ys ≡ name (bytes "as") ∷ in_quotes us) × IsOne us a.1 × (a.0 ≡ how)} {R = Marked} {next = λ how ts. made (λ p. (how, p)) (as_pattern stop 200 ts)}
+  marked_sound = followed {P = Worded (bytes "with") (Quoted (IsPremise stop))} {Q = λ how ys a. (us : List Token) × (ys ≡ name (bytes "as") ∷ in_quotes us) × IsOne us a.1 × (a.0 ≡ how)} {R = Marked} {next = λ how ts. made (λ p. (how, p)) (as_pattern stop MAX_LEVELS ts)}
       (worded stop (codes "with") (bytes "with") with_word (quoted_premise_sound stop))
-      (λ how. changed (λ p. (how, p)) (as_pattern_sound 200) (λ ys p k. (k.2.0, k.1 ∙ ap (λ us. name (bytes "as") ∷ us) k.2.1, k.2.2, refl)))
+      (λ how. changed (λ p. (how, p)) (as_pattern_sound MAX_LEVELS) (λ ys p k. (k.2.0, k.1 ∙ ap (λ us. name (bytes "as") ∷ us) k.2.1, k.2.2, refl)))
       (λ xs ys how a p q. (p.2.0, q.0, both_are (p.1 ∙ ap (λ us. name (bytes "with") ∷ us) p.2.1) q.1, subst (IsPremise stop p.2.0) (sym q.3) p.2.2, q.2))
 
   asserted_by : (b : Bool) (ts : List Place) (x : (Spat × Pat) × List Place) → sees s.Intuitionistic ts ≡ b → behind_marker (cond b (drop 1 ts) ts) ≡ Ok x → Found Asserted ts x
@@ -357,7 +358,7 @@ module _ (stop : ℕ) (preds : Callables) (names : Names) where
 
   pub allocated_sound : Sound Allocated (allocated stop)
   unfolding allocated
-  allocated_sound = followed {P = Worded (bytes "as") (Within s.Open s.Close (Spelled name_as))} {Q = λ w ys a. (us : List Token) × (ys ≡ in_quotes us) × IsOne us a.1 × (a.0 ≡ w)} {R = Allocated} {next = λ w ts. made (λ p. (w, p)) (quoted_pattern stop 200 ts)}
+  allocated_sound = followed {P = Worded (bytes "as") (Within s.Open s.Close (Spelled name_as))} {Q = λ w ys a. (us : List Token) × (ys ≡ in_quotes us) × IsOne us a.1 × (a.0 ≡ w)} {R = Allocated} {next = λ w ts. made (λ p. (w, p)) (quoted_pattern stop MAX_LEVELS ts)}
       (worded stop (codes "as") (bytes "as") as_word grouped_name_sound)
-      (λ w. changed (λ p. (w, p)) (quoted_pattern_sound stop 200) (λ ys p k. (k.0, k.1, k.2, refl)))
+      (λ w. changed (λ p. (w, p)) (quoted_pattern_sound stop MAX_LEVELS) (λ ys p k. (k.0, k.1, k.2, refl)))
       (λ xs ys w a p q. (q.0, both_are (p.1 ∙ ap (λ us. name (bytes "as") ∷ us) (p.2.1 ∙ ap in_parentheses (p.2.2 ∙ ap name_as (sym q.3)))) q.1, q.2))

@@ -2,6 +2,7 @@
 use Rattle.std.proofs.Common.{◌≡◌, inl, inr, ℕ, zero, suc, ℤ, ◌≤◌, Bool, true, false, ◌&&◌, List, [], ◌∷◌, ◌++◌, length, drop, Option, Some, None, Result, Ok, refl, sym, ap, subst, ◌∙◌, append_assoc, append-nil, length-append, arith}
 use Rattle.std.specs.Prelude.{codes}
 use Rattle.std.proofs.lemmas.Slice.Eq.{bytes_eq-Decides}
+use Rattle.pm_logic.specs.declared.limits.TheConstants.{MAX_LEVELS}
 use Rattle.pm_logic.specs.declared.formula.Term.{Term}
 use Rattle.pm_logic.specs.Size.{term_depth, pure_depth, depth_of}
 use Rattle.pm_tokens.specs.declared.symbol.Symbol.{Symbol}
@@ -193,19 +194,19 @@ module _ (stop : ℕ) (preds : Callables) (names : Names) where
 
   pub t_term : CompleteTree (IsTerm names sum) TermEnds (term_tree stop preds names)
   unfolding term_tree
-  t_term = record { ok = λ o ys a rest is ends. tree_okay term_depth (sum_in stop names 200 (put o ys ++ rest)) (offset stop (put o ys ++ rest)) a rest (okay _ _ (sum_read stop names ys a is 200 o rest ends)) }
+  t_term = record { ok = λ o ys a rest is ends. tree_okay term_depth (sum_in stop names MAX_LEVELS (put o ys ++ rest)) (offset stop (put o ys ++ rest)) a rest (okay _ _ (sum_read stop names ys a is MAX_LEVELS o rest ends)) }
 
   pub t_operand : CompleteTree (IsTerm names operand) Any (operand_tree stop preds names)
   unfolding operand_tree
-  t_operand = record { ok = λ o ys a rest is ends. tree_okay term_depth (operand_in stop names 200 (put o ys ++ rest)) (offset stop (put o ys ++ rest)) a rest (okay _ _ (operand_read stop names ys a is 200 o rest)) }
+  t_operand = record { ok = λ o ys a rest is ends. tree_okay term_depth (operand_in stop names MAX_LEVELS (put o ys ++ rest)) (offset stop (put o ys ++ rest)) a rest (okay _ _ (operand_read stop names ys a is MAX_LEVELS o rest)) }
 
   pub t_pure : CompleteTree (IsPure names Ors) (PureEnds Ors) (pure_tree stop preds names)
   unfolding pure_tree
-  t_pure = record { ok = λ o ys a rest is ends. tree_okay pure_depth (pure_in stop names 200 Ors (put o ys ++ rest)) (offset stop (put o ys ++ rest)) a rest (okay _ _ (pure_read stop names Ors ys a is 200 o rest ends)) }
+  t_pure = record { ok = λ o ys a rest is ends. tree_okay pure_depth (pure_in stop names MAX_LEVELS Ors (put o ys ++ rest)) (offset stop (put o ys ++ rest)) a rest (okay _ _ (pure_read stop names Ors ys a is MAX_LEVELS o rest ends)) }
 
   pub t_formula : CompleteTree (IsAnyFormula stop preds names) (FormulaEnds Wands) (formula_tree stop preds names)
   unfolding formula_tree
-  t_formula = record { ok = λ o ys a rest is ends. tree_okay depth_of (formula_in stop preds 200 Wands names (put o ys ++ rest)) (offset stop (put o ys ++ rest)) a rest (okay _ _ (formula_read stop preds names Wands is.0 ys a is.1 200 o rest (ends_either is.0 rest ends))) }
+  t_formula = record { ok = λ o ys a rest is ends. tree_okay depth_of (formula_in stop preds MAX_LEVELS Wands names (put o ys ++ rest)) (offset stop (put o ys ++ rest)) a rest (okay _ _ (formula_read stop preds names Wands is.0 ys a is.1 MAX_LEVELS o rest (ends_either is.0 rest ends))) }
 
   pub t_grouped_formula : CompleteTree (Within s.Open s.Close (IsAnyFormula stop preds names)) Any (grouped_formula stop preds names)
   unfolding grouped_formula

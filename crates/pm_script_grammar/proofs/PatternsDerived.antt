@@ -1,5 +1,6 @@
 -- What is read between quotes is derived by the grammar.
 use Rattle.std.proofs.Common.{◌≡◌, ℕ, zero, suc, Bool, true, false, ◌==◌, List, [], ◌∷◌, ◌++◌, drop, Option, Some, None, Ok, Err, refl, sym, ap, subst, ◌∙◌, append_assoc}
+use Rattle.pm_logic.specs.declared.limits.TheConstants.{MAX_LEVELS}
 use Rattle.pm_tokens.specs.declared.symbol.Symbol.{Symbol}
 use Rattle.pm_tokens.specs.declared.symbol.Symbol.TheVariants as s
 use Rattle.pm_tokens.specs.Tokens.{Token, name, number, symbol, Place, place}
@@ -314,7 +315,7 @@ module _ (stop : ℕ) where
 
   pub bound_pattern_sound : Sound IsBoundPattern (bound_pattern stop)
   unfolding bound_pattern
-  bound_pattern_sound = after_symbol {one = named_pattern stop 200} s.Open (named_sound 200) bound_named (wider (quoted_pattern_sound 200) (λ ys r k. subst (λ us. IsBoundPattern us r) (sym k.1) (g.plain k.2)))
+  bound_pattern_sound = after_symbol {one = named_pattern stop MAX_LEVELS} s.Open (named_sound MAX_LEVELS) bound_named (wider (quoted_pattern_sound MAX_LEVELS) (λ ys r k. subst (λ us. IsBoundPattern us r) (sym k.1) (g.plain k.2)))
 
   -- ---- introduction items
 
@@ -327,7 +328,7 @@ module _ (stop : ℕ) where
   clear_sound = after_symbol {P = λ ys p. IsIntro (symbol s.OpenBrace ∷ ys) p} {one = λ us. closed_by s.CloseBrace stop (made pat.Clear (some_until s.CloseBrace (sel_in stop) us))} s.OpenBrace
       (closed s.CloseBrace stop (changed {Q = λ ys p. IsIntro (symbol s.OpenBrace ∷ (ys ++ symbol s.CloseBrace ∷ [])) p} pat.Clear (some_of s.CloseBrace sel_as sel_sound) cleared_is) (λ ys p is. is))
       (λ ys p is. is)
-      (wider (pattern_sound 200 One) (λ ys p is. g.pattern_of is))
+      (wider (pattern_sound MAX_LEVELS One) (λ ys p is. g.pattern_of is))
 
   intro_sound : Sound IsIntro (intro_in stop)
   unfolding intro_in

@@ -1,5 +1,6 @@
 -- What the grammar derives between quotes is read, unless it is too deep.
 use Rattle.std.proofs.Common.{◌≡◌, inl, inr, ℕ, zero, suc, ◌≤◌, Bool, true, false, cond, ◌==◌, List, [], ◌∷◌, ◌++◌, length, Some, None, Err, refl, sym, ap, subst, ◌∙◌, append_assoc, arith}
+use Rattle.pm_logic.specs.declared.limits.TheConstants.{MAX_LEVELS}
 use Rattle.pm_tokens.specs.declared.symbol.Symbol.{Symbol}
 use Rattle.pm_tokens.specs.declared.symbol.Symbol.TheVariants as s
 use Rattle.pm_tokens.specs.Tokens.{Token, name, number, symbol, Place, place}
@@ -149,10 +150,10 @@ module _ (stop : ℕ) where
 
   bound_read : (ys : List Token) (p : Pat) → IsBoundPattern ys p → (o : ℕ → ℕ) (rest : List Place) → Okay (bound_pattern stop (put o ys ++ rest)) (p, rest)
   unfolding bound_pattern sees same_symbol
-  bound_read _ p (g.plain {xs = xs} h) o rest = quoted_pattern_read 200 xs p h o rest
+  bound_read _ p (g.plain {xs = xs} h) o rest = quoted_pattern_read MAX_LEVELS xs p h o rest
   bound_read _ _ (g.named x ns {xs = xs} {p = p} h) o rest =
-      at_okay (λ ts. named_pattern stop 200 ts) (put (next o) ((names_as (x ∷ ns) ++ symbol s.Close ∷ []) ++ in_quotes xs) ++ rest) (put (next o) (behind_names (x ∷ ns) xs) ++ rest) (over (x ∷ ns) p, rest)
-      (ap (λ (v : List Token). put (next o) v ++ rest) (append_assoc (names_as (x ∷ ns)) (symbol s.Close ∷ []) (in_quotes xs))) (named_read 200 x ns xs p h (next o) rest)
+      at_okay (λ ts. named_pattern stop MAX_LEVELS ts) (put (next o) ((names_as (x ∷ ns) ++ symbol s.Close ∷ []) ++ in_quotes xs) ++ rest) (put (next o) (behind_names (x ∷ ns) xs) ++ rest) (over (x ∷ ns) p, rest)
+      (ap (λ (v : List Token). put (next o) v ++ rest) (append_assoc (names_as (x ∷ ns)) (symbol s.Close ∷ []) (in_quotes xs))) (named_read MAX_LEVELS x ns xs p h (next o) rest)
 
   pub c_bound : Complete IsBoundPattern Any (bound_pattern stop)
   c_bound = record { ok = λ o ys p rest is ends. bound_read ys p is o rest }
@@ -180,7 +181,7 @@ module _ (stop : ℕ) where
       let b = begun One ys p h o rest in
       let item = no_item (put o ys ++ rest) b.0 b.1 in
       let brace = unbegun s.OpenBrace no_brace (put o ys ++ rest) b.0 b.1 in
-      rw item (rw brace ((c_pattern stop 200).ok o ys p rest h tt))
+      rw item (rw brace ((c_pattern stop MAX_LEVELS).ok o ys p rest h tt))
 
   c_clear : Complete (λ ys p. (list : List Sel) × (ys ≡ sels_as list ++ symbol s.CloseBrace ∷ []) × HasOne list × (p ≡ pat.Clear list)) Any (λ ts. closed_by s.CloseBrace stop (made pat.Clear (some_until s.CloseBrace (sel_in stop) ts)))
   c_clear = c_closed {P = λ ys p. (list : List Sel) × (ys ≡ sels_as list) × HasOne list × (p ≡ pat.Clear list)} Any s.CloseBrace stop (sees_itself s.CloseBrace)

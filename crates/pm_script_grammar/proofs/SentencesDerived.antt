@@ -1,10 +1,11 @@
 -- Sentences that are read are derived by the grammar.
-use Rattle.std.proofs.Common.{◌≡◌, ℕ, zero, suc, ◌<◌, ◌^◌, Bool, true, false, cond, ◌||◌, ◌&&◌, ◌==◌, ltb, ltb-true, List, [], ◌∷◌, ◌++◌, length, drop, Option, Some, None, Ok, refl, sym, ap, subst, ◌∙◌, append_assoc, append-nil}
+use Rattle.std.proofs.Common.{◌≡◌, ℕ, zero, suc, ◌<◌, ◌-◌, ◌^◌, Bool, true, false, cond, ◌||◌, ◌&&◌, ◌==◌, ltb, ltb-true, List, [], ◌∷◌, ◌++◌, length, drop, Option, Some, None, Ok, refl, sym, ap, subst, ◌∙◌, append_assoc, append-nil}
 use Rattle.std.specs.Prelude.{slice_get}
 use Rattle.std.specs.List.{AllByRecursion, list_any}
 use Rattle.std.specs.Str.{bytes_eq}
 use Rattle.std.proofs.lemmas.Bool.Decides.{Decides-eqb}
 use Rattle.std.proofs.lemmas.Slice.Eq.{bytes_eq-Decides}
+use Rattle.pm_logic.specs.declared.limits.TheConstants.{MAX_LEVELS}
 use Rattle.pm_logic.specs.declared.formula.Formula.{Formula}
 use Rattle.pm_logic.specs.declared.formula.Formula.TheViews as formula
 use Rattle.pm_logic.specs.declared.formula.Pred.{Pred}
@@ -169,9 +170,9 @@ module _ (stop : ℕ) (preds : List Pred) (names : Names) where
 
   statement_sound : Sound Stated (statement stop preds names)
   unfolding statement conclusion
-  statement_sound = followed {P = IsAnyFormula stop (callables 0 preds) []} {Q = λ f ys h. (xs : List Token) → IsAnyFormula stop (callables 0 preds) [] xs f → Stated (xs ++ ys) h} {R = Stated} {next = λ f ts. conclusion stop preds names f ts} (formula_sound 200)
-      (λ f. after_symbol {P = λ ys h. (xs : List Token) → IsAnyFormula stop (callables 0 preds) [] xs f → Stated (xs ++ symbol s.Entails ∷ ys) h} {one = λ us. made (formula.Wand f) (formula_in stop (callables 0 preds) 199 Wands [] us)} s.Entails
-      (changed (formula.Wand f) (formula_sound 199) (λ ys h k xs first n. g.entailment n first.1 k.1))
+  statement_sound = followed {P = IsAnyFormula stop (callables 0 preds) []} {Q = λ f ys h. (xs : List Token) → IsAnyFormula stop (callables 0 preds) [] xs f → Stated (xs ++ ys) h} {R = Stated} {next = λ f ts. conclusion stop preds names f ts} (formula_sound MAX_LEVELS)
+      (λ f. after_symbol {P = λ ys h. (xs : List Token) → IsAnyFormula stop (callables 0 preds) [] xs f → Stated (xs ++ symbol s.Entails ∷ ys) h} {one = λ us. made (formula.Wand f) (formula_in stop (callables 0 preds) (MAX_LEVELS - 1) Wands [] us)} s.Entails
+      (changed (formula.Wand f) (formula_sound (MAX_LEVELS - 1)) (λ ys h k xs first n. g.entailment n first.1 k.1))
       (λ ys h k. k)
       (given f (λ xs first n. subst (λ (ts : List Token). S (name (bytes "Lemma") ∷ name n ∷ symbol s.Colon ∷ ts) (sentence.Lemma n f)) (sym (append-nil xs)) (g.lemma n first.1))))
       (λ xs ys f h p q. q xs p)

@@ -1,10 +1,11 @@
 -- Sentences that the grammar derives are read, unless they are too deep.
-use Rattle.std.proofs.Common.{◌≡◌, inl, inr, ℕ, zero, suc, ◌<◌, ◌≤◌, ◌^◌, Bool, true, false, cond, ◌||◌, ◌&&◌, ◌==◌, lt-ltb, List, [], ◌∷◌, ◌++◌, length, Some, None, Ok, Err, refl, sym, ap, subst, ◌∙◌, append_assoc, append-nil, arith}
+use Rattle.std.proofs.Common.{◌≡◌, inl, inr, ℕ, zero, suc, ◌<◌, ◌-◌, ◌≤◌, ◌^◌, Bool, true, false, cond, ◌||◌, ◌&&◌, ◌==◌, lt-ltb, List, [], ◌∷◌, ◌++◌, length, Some, None, Ok, Err, refl, sym, ap, subst, ◌∙◌, append_assoc, append-nil, arith}
 use Rattle.std.specs.Prelude.{slice_get}
 use Rattle.std.specs.List.{list_any}
 use Rattle.std.specs.Str.{bytes_eq}
 use Rattle.std.proofs.lemmas.Bool.Decides.{Decides-eqb}
 use Rattle.std.proofs.lemmas.Slice.Eq.{bytes_eq-Decides}
+use Rattle.pm_logic.specs.declared.limits.TheConstants.{MAX_LEVELS}
 use Rattle.pm_logic.specs.declared.formula.Formula.{Formula}
 use Rattle.pm_logic.specs.declared.formula.Formula.TheViews as formula
 use Rattle.pm_logic.specs.declared.formula.Pred.{Pred}
@@ -174,7 +175,7 @@ module _ (stop : ℕ) (preds : List Pred) (names : Names) where
 
   single_read : (e : End) (xs : List Token) (f : Formula) → IsFormula (callables 0 preds) [] Wands e xs f → Stated xs f
   unfolding statement conclusion
-  single_read e xs f is o = then_okay (formula_in stop (callables 0 preds) 200 Wands [] (put o xs ++ [])) (λ f. conclusion stop preds names f.0 f.1) (f, []) (f, []) (part_read 200 e xs f is o [] end_formula) (rw no_entails (inl refl))
+  single_read e xs f is o = then_okay (formula_in stop (callables 0 preds) MAX_LEVELS Wands [] (put o xs ++ [])) (λ f. conclusion stop preds names f.0 f.1) (f, []) (f, []) (part_read MAX_LEVELS e xs f is o [] end_formula) (rw no_entails (inl refl))
 
   both_read : (e h : End) (xs ys : List Token) (f q : Formula) → IsFormula (callables 0 preds) [] Wands e xs f → IsFormula (callables 0 preds) [] Wands h ys q → Stated (xs ++ symbol s.Entails ∷ ys) (formula.Wand f q)
   unfolding statement conclusion
@@ -183,9 +184,9 @@ module _ (stop : ℕ) (preds : List Pred) (names : Names) where
       let vs : List Place = put (λ n. skip xs o (suc n)) ys ++ [] in
       let us : List Place = place (symbol s.Entails) at ∷ vs in
       let seen = sees_itself s.Entails at vs in
-      at_okay (λ ts. formula_in stop (callables 0 preds) 200 Wands [] ts >>= λ f. conclusion stop preds names f.0 f.1) (put o (xs ++ symbol s.Entails ∷ ys) ++ []) (put o xs ++ us) (formula.Wand f q, []) (put-append o xs (symbol s.Entails ∷ ys) [])
-      (then_okay (formula_in stop (callables 0 preds) 200 Wands [] (put o xs ++ us)) (λ f. conclusion stop preds names f.0 f.1) (f, us) (formula.Wand f q, []) (part_read 200 e xs f is-f o us (entails_formula at vs))
-      (rw seen (made_okay (formula.Wand f) (formula_in stop (callables 0 preds) 199 Wands [] vs) q [] (part_read 199 h ys q is-q (λ n. skip xs o (suc n)) [] end_formula))))
+      at_okay (λ ts. formula_in stop (callables 0 preds) MAX_LEVELS Wands [] ts >>= λ f. conclusion stop preds names f.0 f.1) (put o (xs ++ symbol s.Entails ∷ ys) ++ []) (put o xs ++ us) (formula.Wand f q, []) (put-append o xs (symbol s.Entails ∷ ys) [])
+      (then_okay (formula_in stop (callables 0 preds) MAX_LEVELS Wands [] (put o xs ++ us)) (λ f. conclusion stop preds names f.0 f.1) (f, us) (formula.Wand f q, []) (part_read MAX_LEVELS e xs f is-f o us (entails_formula at vs))
+      (rw seen (made_okay (formula.Wand f) (formula_in stop (callables 0 preds) (MAX_LEVELS - 1) Wands [] vs) q [] (part_read (MAX_LEVELS - 1) h ys q is-q (λ n. skip xs o (suc n)) [] end_formula))))
 
   lemma_read : (n : List ℕ) (ys : List Token) (f : Formula) → Stated ys f → IsRead form.Lemma (name n ∷ symbol s.Colon ∷ ys) (sentence.Lemma n f)
   unfolding formed lemma name_in expect statement_tree

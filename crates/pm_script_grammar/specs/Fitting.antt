@@ -1,6 +1,7 @@
 -- What is read is in range.
 use Rattle.std.specs.Prelude.{◌≡◌, ℕ, ◌≤◌, IsTrue, List, [], ◌∷◌, ◌++◌, length, Ok}
 use Rattle.std.specs.List.{AllByRecursion}
+use Rattle.pm_logic.specs.declared.limits.TheConstants.{MAX_LEVELS}
 use Rattle.pm_logic.specs.declared.formula.Term.{Term}
 use Rattle.pm_logic.specs.declared.formula.Pure.{Pure}
 use Rattle.pm_logic.specs.declared.formula.Formula.{Formula}
@@ -43,13 +44,13 @@ pub record WhatIsDerivedFits : Type 0 where
 pub record StatementFits (preds : List Pred) (name : List ℕ) (f : Formula) : Type 0 where
   pub named : IsTrue (is_name name)
   pub in_range : InRange (arities_of preds) 0 f
-  pub levels : depth_of f ≤ 200
+  pub levels : depth_of f ≤ MAX_LEVELS
 
 -- a predicate over those of the table
 pub record DefinitionFits (preds : List Pred) (name : List ℕ) (params : Names) (body : Formula) : Type 0 where
   pub named : IsTrue (is_name name)
   pub in_range : InRange (with_own preds (length params)) (length params) body
-  pub levels : depth_of body ≤ 200
+  pub levels : depth_of body ≤ MAX_LEVELS
 
 pub record WhatIsReadFits : Type 0 where
   pub lemmas : (base : ℕ) (preds : List Pred) (names : Names) (text name : List ℕ) (f : Formula) → read_sentence base preds names text ≡ Ok (Lemma name f) → StatementFits preds name f

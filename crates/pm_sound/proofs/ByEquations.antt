@@ -11,7 +11,7 @@ use Rattle.pm_logic.specs.Classes.{IsTimeless}
 use Rattle.pm_logic.specs.Scope.{CallsFit}
 use Rattle.pm_logic.specs.Trees.{Sep, Later}
 use Rattle.pm_rules.specs.declared.rules.Rule.TheVariants as rule
-use Rattle.pm_rules.specs.Rules.{HasArguments, HasEquations, HasBracket}
+use Rattle.pm_rules.specs.Rows.{HasArguments, HasBracket}
 use Rattle.pm_sound.specs.Truth.{IsSound}
 use Rattle.pm_sound.proofs.Connectives.{inst_true, all_e_true, ex_i_true}
 use Rattle.pm_sound.proofs.Facts.{rewrite_true}
@@ -21,18 +21,18 @@ use Rattle.pm_sound.proofs.Recursion.{call_named, fold_true, unfold_true, timele
 use Rattle.pm_sound.proofs.Rows.{along}
 
 pub inst : (sigma : List Term) → IsSound (rule.Inst sigma)
-unfolding HasEquations HasArguments
+unfolding HasArguments
 inst sigma preds [] e table given scoped t ok = absurd ok.shape
 inst sigma preds (p ∷ []) e table given scoped t ok =
     along ok.shape.left_is ok.shape.right_is (inst_true preds e.vars p.vars sigma p.left p.right (sym ok.arguments.0) t.0)
 inst sigma preds (p ∷ q ∷ ps) e table given scoped t ok = absurd ok.shape
 
 pub all_e : (u : Term) → IsSound (rule.AllE u)
-unfolding block.shape-the_row-Formula-0 block.hidden-the_row-Formula-0 carrier.hidden HasEquations
+unfolding block.shape-the_row-Formula-0 block.hidden-the_row-Formula-0 carrier.hidden
 all_e u preds ps e table given scoped t ok = let s = ok.shape in along s.left_is s.right_is (all_e_true preds e.vars s.b u)
 
 pub ex_i : (u : Term) → IsSound (rule.ExI u)
-unfolding block.shape-the_row-Formula-0 block.hidden-the_row-Formula-0 carrier.hidden HasEquations
+unfolding block.shape-the_row-Formula-0 block.hidden-the_row-Formula-0 carrier.hidden
 ex_i u preds ps e table given scoped t ok = let s = ok.shape in along s.left_is s.right_is (ex_i_true preds e.vars s.b u)
 
 pub linear : (c d : List ℤ) → IsSound (rule.Linear c d)
@@ -40,24 +40,24 @@ unfolding HasBracket
 linear c d preds ps e table given scoped t ok = let s = ok.bracket in along s.left_is s.right_is (linear_true preds e.vars c d s.fs s.g s.first s.second)
 
 pub rewrite : (b : Formula) → IsSound (rule.Rewrite b)
-unfolding block.shape-the_row-Formula-0 block.hidden-the_row-Formula-0 carrier.hidden HasEquations
+unfolding block.shape-the_row-Formula-0 block.hidden-the_row-Formula-0 carrier.hidden
 rewrite b preds ps e table given scoped t ok = let s = ok.shape in along s.left_is s.right_is (rewrite_true preds e.vars b s.s s.t)
 
 -- ---- points-to
 
 pub pts_split : IsSound rule.PtsSplit
-unfolding block.shape-the_row-Formula-0 block.hidden-the_row-Formula-0 carrier.hidden HasEquations CallsFit
+unfolding block.shape-the_row-Formula-0 block.hidden-the_row-Formula-0 carrier.hidden CallsFit
 pts_split preds ps e table given scoped t ok =
     let s = ok.shape in
     let units = subst (λ x. CallsFit preds.list x) s.parts_are scoped.right.calls in
     along s.whole_is s.parts_are (pts_split_true preds e.vars s.l s.v s.a s.b units.0.0 units.1.0)
 
 pub pts_join : IsSound rule.PtsJoin
-unfolding block.shape-the_row-Formula-0 block.hidden-the_row-Formula-0 carrier.hidden HasEquations
+unfolding block.shape-the_row-Formula-0 block.hidden-the_row-Formula-0 carrier.hidden
 pts_join preds ps e table given scoped t ok = let s = ok.shape in along s.parts_are s.whole_is (pts_join_true preds e.vars s.l s.v s.a s.b)
 
 pub pts_agree : IsSound rule.PtsAgree
-unfolding block.shape-the_row-Formula-0 block.hidden-the_row-Formula-0 carrier.hidden HasEquations
+unfolding block.shape-the_row-Formula-0 block.hidden-the_row-Formula-0 carrier.hidden
 pts_agree preds ps e table given scoped t ok = let s = ok.shape in along s.left_is s.right_is (pts_agree_true preds e.vars s.l s.v s.w s.a s.b)
 
 units_of : Formula → ℕ
@@ -73,7 +73,7 @@ second_units (Sep x y) = units_of y
 second_units _ = 0
 
 pub pts_over : IsSound rule.PtsOver
-unfolding block.shape-the_row-Formula-0 block.hidden-the_row-Formula-0 carrier.hidden HasEquations HasBracket units_of first_units second_units
+unfolding block.shape-the_row-Formula-0 block.hidden-the_row-Formula-0 carrier.hidden HasBracket units_of first_units second_units
 pts_over preds ps e table given scoped t ok =
     let s = ok.shape in
     let o = ok.bracket in
@@ -82,11 +82,11 @@ pts_over preds ps e table given scoped t ok =
     along s.left_is s.right_is (pts_over_true preds e.vars s.l s.v s.w s.a s.b over)
 
 pub pts_write : IsSound rule.PtsWrite
-unfolding block.shape-the_row-Formula-0 block.hidden-the_row-Formula-0 carrier.hidden HasEquations
+unfolding block.shape-the_row-Formula-0 block.hidden-the_row-Formula-0 carrier.hidden
 pts_write preds ps e table given scoped t ok = let s = ok.shape in along s.left_is s.right_is (pts_write_true preds e.vars s.l s.v s.w)
 
 pub pts_new : IsSound rule.PtsNew
-unfolding block.shape-the_row-Formula-0 block.hidden-the_row-Formula-0 carrier.hidden HasEquations
+unfolding block.shape-the_row-Formula-0 block.hidden-the_row-Formula-0 carrier.hidden
 pts_new preds ps e table given scoped t ok =
     let s = ok.shape in
     along refl (s.right_is ∙ ap (λ x. view.Upd (view.Ex x)) s.fresh.is) (pts_new_true preds e.vars e.left s.fresh.v)
@@ -94,14 +94,13 @@ pts_new preds ps e table given scoped t ok =
 -- ---- calls and timeless formulas
 
 pub fold_call : IsSound rule.Fold
-unfolding HasEquations CallsFit
+unfolding CallsFit
 fold_call preds ps e table given scoped t ok =
     let s = ok.shape in
     let fits = subst (λ x. CallsFit preds.list x) s.call_is scoped.right.calls in
     along s.body_is s.call_is (fold_true preds e.vars s.p s.args table.guarded (call_named preds.list s.p (length s.args) fits))
 
 pub unfold_call : IsSound rule.Unfold
-unfolding HasEquations
 unfold_call preds ps e table given scoped t ok = let s = ok.shape in along s.call_is s.body_is (unfold_true preds e.vars s.p s.args table.guarded)
 
 part_of : Formula → Formula

@@ -7,7 +7,7 @@ use Rattle.pm_model.specs.Entailment.{IsTrueEntailment}
 use Rattle.pm_rules.specs.declared.rules.Entail.{Entail}
 use Rattle.pm_rules.specs.declared.rules.Rule.{Rule}
 use Rattle.pm_rules.specs.Shapes.{Letters, Sequent, instance}
-use Rattle.pm_rules.specs.Rows.{Row, Shapes, Computed, row}
+use Rattle.pm_rules.specs.Rows.{Row, Shapes, Computed, row, frame}
 use Rattle.pm_rules.specs.Rules.{HaveVariables, HasShapeOf, AreInstances}
 use Rattle.pm_sound.specs.Truth.{IsTrueEntail, IsSound}
 
@@ -30,7 +30,7 @@ higher (suc m) k = suc (higher m k)
 -- whatever the letters stand for, the premises give the conclusion
 abbrev pub IsTrueRow : Row → Type 0
 IsTrueRow (Shapes n more given c) = (preds : Preds) (s : Letters) (k : ℕ) → AreTrueInstances preds (higher more k) s given → IsTrueInstance preds k s c
-IsTrueRow (Computed n count) = ⊥
+IsTrueRow (Computed n count holds) = ⊥
 
 premises_true : (preds : Preds) (k : ℕ) (s : Letters) (given : List Sequent) (ps : List Entail) → AreInstances s given ps → AllByRecursion (λ (p : Entail). p.vars ≡ k) ps → AllByRecursion (IsTrueEntail preds) ps → AreTrueInstances preds k s given
 premises_true preds k s [] ps i v t = tt
@@ -47,11 +47,11 @@ all_higher : (k m : ℕ) (ps : List Entail) → AllByRecursion (λ (p : Entail).
 all_higher k m [] v = tt
 all_higher k m (p ∷ ps) v = (v.0 ∙ is_higher m k, all_higher k m ps v.1)
 
-of_row : (w : Row) (preds : Preds) (rule : Rule) (ps : List Entail) (e : Entail) → IsTrueRow w → HaveVariables w ps e → HasShapeOf w preds rule ps e → AllByRecursion (IsTrueEntail preds) ps → IsTrueEntail preds e
-of_row (Shapes n more given c) preds rule ps e r v s t =
+of_row : (w : Row) (preds : Preds) (ps : List Entail) (e : Entail) → IsTrueRow w → HaveVariables (frame w) ps e → HasShapeOf w preds ps e → AllByRecursion (IsTrueEntail preds) ps → IsTrueEntail preds e
+of_row (Shapes n more given c) preds ps e r v s t =
     along s.conclusion.left_is s.conclusion.right_is (r preds s.letters e.vars (premises_true preds (higher more e.vars) s.letters given ps s.premises (all_higher e.vars more ps v) t))
-of_row (Computed n count) preds rule ps e r v s t = absurd r
+of_row (Computed n count holds) preds ps e r v s t = absurd r
 
 -- a rule with a true row is sound
 pub by_row : (rule : Rule) → IsTrueRow (row rule) → IsSound rule
-by_row rule r preds ps e table given scoped t ok = of_row (row rule) preds rule ps e r ok.variables ok.shape t
+by_row rule r preds ps e table given scoped t ok = of_row (row rule) preds ps e r ok.variables ok.shape t

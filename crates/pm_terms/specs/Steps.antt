@@ -1,10 +1,13 @@
 -- Steps of a reader: from left to right, the value and the tokens that are left, or the first fault.
 use Rattle.std.specs.Prelude.{◌≡◌, ◌≢◌, ℕ, zero, suc, ◌+◌, ℤ, pos, neg_ℤ, ◌^◌, Bool, true, false, ◌&&◌, ◌==◌, nat_lt, nat_le, if◌then◌else◌, List, [], ◌∷◌, drop, length, Option, Some, None, Result, Ok, Err}
 use denote.Enum.Bare.{sameb}
+use denote.Ref.{Bor}
+use Rattle.pm_logic.specs.declared.limits.TheConstants.{MAX_LEVELS}
 use Rattle.pm_tokens.specs.declared.symbol.Symbol.{Symbol}
 use Rattle.pm_tokens.specs.declared.symbol.Symbol.TheVariants as s
 use Rattle.pm_tokens.specs.contracts.symbol.Symbol.{the_type}
-use Rattle.pm_tokens.specs.Tokens.{Token, name, number, symbol, Place, place}
+use Rattle.pm_tokens.specs.declared.token.Placed.{Placed}
+use Rattle.pm_tokens.specs.Tokens.{Token, name, number, symbol, Place, place, places}
 use Rattle.pm_terms.specs.declared.fault.TextFault.{TextFault}
 use Rattle.pm_terms.specs.declared.fault.TextFault.TheVariants.{Unexpected, Unbound, Number, Fraction, Arity, Deep, Memory}
 
@@ -124,9 +127,9 @@ after_group n (place (symbol r) at ∷ ts) = after_group n ts
 unfoldable pub all_of : {A : Type 0} → (end stop : ℕ) → Read A → Result A TextFault
 all_of end stop read = read >>= λ x. if length x.1 == 0 && (stop == end) then Ok x.0 else Err (unexpected stop x.1)
 
--- the value, where its tree isn't deeper than 200
+-- the value, where its tree isn't deeper than MAX_LEVELS
 unfoldable pub shallow : {A : Type 0} → (A → ℕ) → ℕ → Result A TextFault → Result A TextFault
-shallow depth at read = read >>= λ x. if nat_le (depth x) 200 then Ok x else Err (Deep at)
+shallow depth at read = read >>= λ x. if nat_le (depth x) MAX_LEVELS then Ok x else Err (Deep at)
 
 -- the fault with its offset counted from another place
 unfoldable pub moved : ℕ → TextFault → TextFault
@@ -148,10 +151,26 @@ abbrev pub Gives : {X Y : Type 0} → (X → Y) → Result X TextFault → Resul
 Gives view (Ok x) read = read ≡ Ok (view x)
 Gives view (Err e) read = e ≢ Memory → read ≡ Err e
 
--- the same where no memory is taken
+-- of the whole text
+abbrev pub ReadsWhole : {A : Type 0} → Result A TextFault → Result A TextFault → Type 0
+ReadsWhole result read = Gives (λ x. x) result read
+
+-- of a part of it, whose tokens come first, and then those that are left
+abbrev pub ReadsAs : {A : Type 0} → Result (A × Bor (List Placed)) TextFault → Read A → Type 0
+ReadsAs result read = Gives (λ x. (x.0, places x.1.now)) result read
+
+-- ---- the same where no memory is taken
+
 abbrev pub Answers : {X Y : Type 0} → (X → Y) → Result X TextFault → Result Y TextFault → Type 0
 Answers view (Ok x) read = read ≡ Ok (view x)
 Answers view (Err e) read = read ≡ Err e
+
+abbrev pub ReadsExactly : {A : Type 0} → Result (A × Bor (List Placed)) TextFault → Read A → Type 0
+ReadsExactly result read = Answers (λ x. (x.0, places x.1.now)) result read
+
+-- the tokens that are left alone
+abbrev pub LeavesExactly : Result (Bor (List Placed)) TextFault → Result (List Place) TextFault → Type 0
+LeavesExactly result read = Answers (λ r. places r.now) result read
 
 -- the offset of a fault
 abbrev pub offset_of : TextFault → ℕ

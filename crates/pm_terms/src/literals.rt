@@ -2,7 +2,7 @@
 
 ghost use Rattle.std.specs.Prelude.{◌≡◌};
 ghost use Rattle.pm_tokens.specs.Tokens.{places};
-ghost use Rattle.pm_terms.specs.Steps.{Answers, natural, positive, negative, digits, literal};
+ghost use Rattle.pm_terms.specs.Steps.{ReadsExactly, natural, positive, negative, digits, literal};
 ghost use Rattle.pm_terms.specs.TermReading.{begins_literal, after_literal, begins_scale, begins_negation};
 
 use crate::fault::TextFault;
@@ -50,7 +50,7 @@ pub fn read_natural<'a, 'b>(
     stop: usize,
     tokens: &'a [Placed<'b>],
 ) -> Result<(u64, &'a [Placed<'b>]), TextFault>
-    ensures { Answers (λ x. (x.0, places x.1.now)) result (digits stop natural (places tokens.now)) }
+    ensures { ReadsExactly result (digits stop natural (places tokens.now)) }
 {
     let [first, rest @ ..] = tokens else {
         return Err(TextFault::Unexpected(stop as u64));
@@ -68,7 +68,7 @@ fn read_positive<'a, 'b>(
     stop: usize,
     tokens: &'a [Placed<'b>],
 ) -> Result<(i64, &'a [Placed<'b>]), TextFault>
-    ensures { Answers (λ x. (x.0, places x.1.now)) result (digits stop positive (places tokens.now)) }
+    ensures { ReadsExactly result (digits stop positive (places tokens.now)) }
 {
     let [first, rest @ ..] = tokens else {
         return Err(TextFault::Unexpected(stop as u64));
@@ -86,7 +86,7 @@ fn read_negative<'a, 'b>(
     stop: usize,
     tokens: &'a [Placed<'b>],
 ) -> Result<(i64, &'a [Placed<'b>]), TextFault>
-    ensures { Answers (λ x. (x.0, places x.1.now)) result (digits stop negative (places tokens.now)) }
+    ensures { ReadsExactly result (digits stop negative (places tokens.now)) }
 {
     let [first, rest @ ..] = tokens else {
         return Err(TextFault::Unexpected(stop as u64));
@@ -105,7 +105,7 @@ pub fn literal<'a, 'b>(
     stop: usize,
     tokens: &'a [Placed<'b>],
 ) -> Result<(i64, &'a [Placed<'b>]), TextFault>
-    ensures { Answers (λ x. (x.0, places x.1.now)) result (literal stop (places tokens.now)) }
+    ensures { ReadsExactly result (literal stop (places tokens.now)) }
 {
     if sees(Symbol::Minus, tokens) {
         read_negative(stop, behind(tokens))

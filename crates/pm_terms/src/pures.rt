@@ -6,7 +6,7 @@ ghost use Rattle.pm_logic.specs.declared.formula.Pure.TheViews as pure;
 ghost use Rattle.pm_tokens.specs.Tokens.{places};
 ghost use Rattle.pm_tokens.specs.declared.symbol.Symbol.TheVariants.{Close};
 ghost use Rattle.pm_terms.specs.Scope.{names_in};
-ghost use Rattle.pm_terms.specs.Steps.{Gives, closed_by, made};
+ghost use Rattle.pm_terms.specs.Steps.{ReadsAs, closed_by, made};
 ghost use Rattle.pm_terms.specs.PureReading.{comparison_of, compared, next_comparison, begins_comparison, sees_infix, joined, deep_pure, comparison_at, literal_at, infix_at, ands_at, pure_at, pure_in};
 ghost use Rattle.pm_terms.specs.declared.level.PureLevel.TheVariants as levels;
 
@@ -93,7 +93,7 @@ fn comparison_at<'a, 'b>(
     tokens: &'a [Placed<'b>],
 ) -> ReadPure<'a, 'b>
     requires { length bound.now + room < 1000 }
-    ensures { Gives (λ x. (x.0, places x.1.now)) result (comparison_at context.now.stop (names_in bound.now context.now.vars) (pure_in context.now.stop (names_in bound.now context.now.vars) room) room (places tokens.now)) }
+    ensures { ReadsAs result (comparison_at context.now.stop (names_in bound.now context.now.vars) (pure_in context.now.stop (names_in bound.now context.now.vars) room) room (places tokens.now)) }
 {
     let (a, rest) = sum_in(context, room + 1, bound, tokens)?;
     let Some(sign) = next_comparison(rest) else {
@@ -137,7 +137,7 @@ fn negation<'a, 'b>(
     tokens: &'a [Placed<'b>],
 ) -> ReadPure<'a, 'b>
     requires { length bound.now + room < 1000 }
-    ensures { Gives (λ x. (x.0, places x.1.now)) result (made pure.Not (pure_in context.now.stop (names_in bound.now context.now.vars) room levels.Literals (places tokens.now))) }
+    ensures { ReadsAs result (made pure.Not (pure_in context.now.stop (names_in bound.now context.now.vars) room levels.Literals (places tokens.now))) }
 {
     let (inner, rest) = pure_in(context, room, PureLevel::Literals, bound, tokens)?;
     Ok((pure_not(context.alloc, inner)?, rest))
@@ -153,7 +153,7 @@ fn group<'a, 'b>(
     tokens: &'a [Placed<'b>],
 ) -> ReadPure<'a, 'b>
     requires { length bound.now + room < 1000 }
-    ensures { Gives (λ x. (x.0, places x.1.now)) result (closed_by Close context.now.stop (pure_in context.now.stop (names_in bound.now context.now.vars) room levels.Ors (places tokens.now))) }
+    ensures { ReadsAs result (closed_by Close context.now.stop (pure_in context.now.stop (names_in bound.now context.now.vars) room levels.Ors (places tokens.now))) }
 {
     let (inner, rest) = pure_in(context, room, PureLevel::Ors, bound, tokens)?;
     let rest = expect(Symbol::Close, context.stop, rest)?;
@@ -170,7 +170,7 @@ fn literal_at<'a, 'b>(
     tokens: &'a [Placed<'b>],
 ) -> ReadPure<'a, 'b>
     requires { length bound.now + room < 1000 }
-    ensures { Gives (λ x. (x.0, places x.1.now)) result (literal_at context.now.stop (names_in bound.now context.now.vars) (pure_in context.now.stop (names_in bound.now context.now.vars) room) room (places tokens.now)) }
+    ensures { ReadsAs result (literal_at context.now.stop (names_in bound.now context.now.vars) (pure_in context.now.stop (names_in bound.now context.now.vars) room) room (places tokens.now)) }
 {
     let [first, rest @ ..] = tokens else {
         return comparison_at(context, room, bound, tokens);
@@ -227,7 +227,7 @@ fn infix_at<'a, 'b>(
     tokens: &'a [Placed<'b>],
 ) -> ReadPure<'a, 'b>
     requires { length bound.now + room < 1000 }
-    ensures { Gives (λ x. (x.0, places x.1.now)) result (infix_at context.now.stop (names_in bound.now context.now.vars) (pure_in context.now.stop (names_in bound.now context.now.vars) room) room level left (places tokens.now)) }
+    ensures { ReadsAs result (infix_at context.now.stop (names_in bound.now context.now.vars) (pure_in context.now.stop (names_in bound.now context.now.vars) room) room level left (places tokens.now)) }
 {
     if !sees_infix(level, tokens) {
         return Ok((left, tokens));
@@ -246,7 +246,7 @@ fn ands_at<'a, 'b>(
     tokens: &'a [Placed<'b>],
 ) -> ReadPure<'a, 'b>
     requires { length bound.now + room < 1000 }
-    ensures { Gives (λ x. (x.0, places x.1.now)) result (ands_at context.now.stop (names_in bound.now context.now.vars) (pure_in context.now.stop (names_in bound.now context.now.vars) room) room (places tokens.now)) }
+    ensures { ReadsAs result (ands_at context.now.stop (names_in bound.now context.now.vars) (pure_in context.now.stop (names_in bound.now context.now.vars) room) room (places tokens.now)) }
 {
     let (left, rest) = literal_at(context, room, bound, tokens)?;
     infix_at(context, room, PureLevel::Ands, bound, left, rest)
@@ -263,7 +263,7 @@ fn pure_at<'a, 'b>(
     tokens: &'a [Placed<'b>],
 ) -> ReadPure<'a, 'b>
     requires { length bound.now + room < 1000 }
-    ensures { Gives (λ x. (x.0, places x.1.now)) result (pure_at context.now.stop (names_in bound.now context.now.vars) (pure_in context.now.stop (names_in bound.now context.now.vars) room) room level (places tokens.now)) }
+    ensures { ReadsAs result (pure_at context.now.stop (names_in bound.now context.now.vars) (pure_in context.now.stop (names_in bound.now context.now.vars) room) room level (places tokens.now)) }
 {
     match level {
         PureLevel::Ors => {
@@ -286,7 +286,7 @@ pub fn pure_in<'a, 'b>(
     tokens: &'a [Placed<'b>],
 ) -> ReadPure<'a, 'b>
     requires { length bound.now + room ≤ 1000 }
-    ensures { Gives (λ x. (x.0, places x.1.now)) result (pure_in context.now.stop (names_in bound.now context.now.vars) room level (places tokens.now)) }
+    ensures { ReadsAs result (pure_in context.now.stop (names_in bound.now context.now.vars) room level (places tokens.now)) }
 {
     if room == 0 {
         Err(deep_pure(context, bound, tokens))

@@ -2,7 +2,7 @@
 
 ghost use Rattle.std.specs.Prelude.{◌≡◌, ◌≤◌, ◌==◌, ◌&&◌, length, drop, zero, IsTrue};
 ghost use Rattle.pm_tokens.specs.Tokens.{places, token_of};
-ghost use Rattle.pm_terms.specs.Steps.{Answers, same_symbol, is_symbol, sees, sees_number, offset, unexpected, expect, after_group};
+ghost use Rattle.pm_terms.specs.Steps.{LeavesExactly, same_symbol, is_symbol, sees, sees_number, offset, unexpected, expect, after_group};
 
 use crate::fault::TextFault;
 use pm_tokens::{Placed, Symbol, Token};
@@ -96,7 +96,7 @@ pub fn expect<'a, 'b>(
     stop: usize,
     tokens: &'a [Placed<'b>],
 ) -> Result<&'a [Placed<'b>], TextFault>
-    ensures { Answers (λ r. places r.now) result (expect symbol stop (places tokens.now)) }
+    ensures { LeavesExactly result (expect symbol stop (places tokens.now)) }
 {
     if sees(symbol, tokens) {
         Ok(behind(tokens))

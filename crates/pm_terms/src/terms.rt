@@ -5,7 +5,7 @@ ghost use Rattle.std.specs.Prelude.{◌≡◌, ◌+◌, ◌≤◌, [], ◌∷◌
 ghost use Rattle.pm_tokens.specs.Tokens.{places};
 ghost use Rattle.pm_terms.specs.Operands.{scaled, summand};
 ghost use Rattle.pm_terms.specs.Scope.{names_in};
-ghost use Rattle.pm_terms.specs.Steps.{Gives, closed_by, with_commas};
+ghost use Rattle.pm_terms.specs.Steps.{ReadsAs, closed_by, with_commas};
 ghost use Rattle.pm_terms.specs.TermReading.{signed, added, deep_term, operand_at, sum_at, term_at, term_in, operand_in, sum_in};
 ghost use Rattle.pm_tokens.specs.declared.symbol.Symbol.TheVariants.{Close};
 ghost use Rattle.pm_terms.specs.declared.level.Before.TheVariants as before;
@@ -100,7 +100,7 @@ fn group<'a, 'b>(
     tokens: &'a [Placed<'b>],
 ) -> ReadTerm<'a, 'b>
     requires { length bound.now + room ≤ 1000 }
-    ensures { Gives (λ x. (x.0, places x.1.now)) result (closed_by Close context.now.stop (term_in context.now.stop (names_in bound.now context.now.vars) room before.Nothing [] (places tokens.now))) }
+    ensures { ReadsAs result (closed_by Close context.now.stop (term_in context.now.stop (names_in bound.now context.now.vars) room before.Nothing [] (places tokens.now))) }
 {
     let none = List::new(context.alloc);
     let (inner, rest) = term_in(context, room, bound, Before::Nothing, none, tokens)?;
@@ -118,7 +118,7 @@ fn operand_at<'a, 'b>(
     tokens: &'a [Placed<'b>],
 ) -> ReadTerm<'a, 'b>
     requires { length bound.now + room ≤ 1000 }
-    ensures { Gives (λ x. (x.0, places x.1.now)) result (operand_at context.now.stop (names_in bound.now context.now.vars) (term_in context.now.stop (names_in bound.now context.now.vars) room) (places tokens.now)) }
+    ensures { ReadsAs result (operand_at context.now.stop (names_in bound.now context.now.vars) (term_in context.now.stop (names_in bound.now context.now.vars) room) (places tokens.now)) }
 {
     let [first, rest @ ..] = tokens else {
         return Err(TextFault::Unexpected(context.stop as u64));
@@ -151,7 +151,7 @@ fn sum_at<'a, 'b>(
     tokens: &'a [Placed<'b>],
 ) -> ReadTerm<'a, 'b>
     requires { length bound.now + room ≤ 1000 }
-    ensures { Gives (λ x. (x.0, places x.1.now)) result (sum_at context.now.stop (names_in bound.now context.now.vars) (term_in context.now.stop (names_in bound.now context.now.vars) room) left (places tokens.now)) }
+    ensures { ReadsAs result (sum_at context.now.stop (names_in bound.now context.now.vars) (term_in context.now.stop (names_in bound.now context.now.vars) room) left (places tokens.now)) }
 {
     let none = List::new(context.alloc);
     if sees(Symbol::Plus, tokens) {
@@ -188,7 +188,7 @@ fn scaled<'a, 'b>(
     tokens: &'a [Placed<'b>],
 ) -> ReadTerm<'a, 'b>
     requires { length bound.now + room ≤ 1000 }
-    ensures { Gives (λ x. (x.0, places x.1.now)) result (scaled context.now.stop (term_in context.now.stop (names_in bound.now context.now.vars) room) left signs (places tokens.now)) }
+    ensures { ReadsAs result (scaled context.now.stop (term_in context.now.stop (names_in bound.now context.now.vars) room) left signs (places tokens.now)) }
 {
     let (z, rest) = literal(context.stop, tokens)?;
     signs.push(Sign::Times(z))?;
@@ -206,7 +206,7 @@ fn negated<'a, 'b>(
     tokens: &'a [Placed<'b>],
 ) -> ReadTerm<'a, 'b>
     requires { length bound.now + room ≤ 1000 }
-    ensures { Gives (λ x. (x.0, places x.1.now)) result (term_in context.now.stop (names_in bound.now context.now.vars) room left (signs ++ sign.Minus ∷ []) (drop 1 (places tokens.now))) }
+    ensures { ReadsAs result (term_in context.now.stop (names_in bound.now context.now.vars) room left (signs ++ sign.Minus ∷ []) (drop 1 (places tokens.now))) }
 {
     signs.push(Sign::Minus)?;
     term_in(context, room, bound, left, signs, behind(tokens))
@@ -223,7 +223,7 @@ fn summand<'a, 'b>(
     tokens: &'a [Placed<'b>],
 ) -> ReadTerm<'a, 'b>
     requires { length bound.now + room ≤ 1000 }
-    ensures { Gives (λ x. (x.0, places x.1.now)) result (summand context.now.stop (names_in bound.now context.now.vars) (term_in context.now.stop (names_in bound.now context.now.vars) room) left.now signs.now (places tokens.now)) }
+    ensures { ReadsAs result (summand context.now.stop (names_in bound.now context.now.vars) (term_in context.now.stop (names_in bound.now context.now.vars) room) left.now signs.now (places tokens.now)) }
 {
     let (operand, rest) = operand_at(context, room, bound, tokens)?;
     let sum = completed(context.alloc, left, signs, operand)?;
@@ -243,7 +243,7 @@ fn term_at<'a, 'b>(
     tokens: &'a [Placed<'b>],
 ) -> ReadTerm<'a, 'b>
     requires { length bound.now + room ≤ 1000 }
-    ensures { Gives (λ x. (x.0, places x.1.now)) result (term_at context.now.stop (names_in bound.now context.now.vars) (term_in context.now.stop (names_in bound.now context.now.vars) room) left signs (places tokens.now)) }
+    ensures { ReadsAs result (term_at context.now.stop (names_in bound.now context.now.vars) (term_in context.now.stop (names_in bound.now context.now.vars) room) left signs (places tokens.now)) }
 {
     if begins_scale(tokens) {
         scaled(context, room, bound, left, signs, tokens)
@@ -265,7 +265,7 @@ fn term_in<'a, 'b>(
     tokens: &'a [Placed<'b>],
 ) -> ReadTerm<'a, 'b>
     requires { length bound.now + room ≤ 1000 }
-    ensures { Gives (λ x. (x.0, places x.1.now)) result (term_in context.now.stop (names_in bound.now context.now.vars) room left signs (places tokens.now)) }
+    ensures { ReadsAs result (term_in context.now.stop (names_in bound.now context.now.vars) room left signs (places tokens.now)) }
 {
     if room == 0 {
         Err(deep_term(context, bound, tokens))
@@ -283,7 +283,7 @@ pub fn sum_in<'a, 'b>(
     tokens: &'a [Placed<'b>],
 ) -> ReadTerm<'a, 'b>
     requires { length bound.now + room ≤ 1000 }
-    ensures { Gives (λ x. (x.0, places x.1.now)) result (sum_in context.now.stop (names_in bound.now context.now.vars) room (places tokens.now)) }
+    ensures { ReadsAs result (sum_in context.now.stop (names_in bound.now context.now.vars) room (places tokens.now)) }
 {
     let signs = List::new(context.alloc);
     term_in(context, room, bound, Before::Nothing, signs, tokens)
@@ -298,7 +298,7 @@ pub fn operand_in<'a, 'b>(
     tokens: &'a [Placed<'b>],
 ) -> ReadTerm<'a, 'b>
     requires { length bound.now + room ≤ 1000 }
-    ensures { Gives (λ x. (x.0, places x.1.now)) result (operand_in context.now.stop (names_in bound.now context.now.vars) room (places tokens.now)) }
+    ensures { ReadsAs result (operand_in context.now.stop (names_in bound.now context.now.vars) room (places tokens.now)) }
 {
     if room == 0 {
         Err(deep_term(context, bound, tokens))
@@ -317,7 +317,7 @@ pub fn sums_in<'a, 'b>(
     tokens: &'a [Placed<'b>],
 ) -> Result<(List<Term>, &'a [Placed<'b>]), TextFault>
     requires { length bound.now + room ≤ 1000 }
-    ensures { Gives (λ x. (x.0, places x.1.now)) result (with_commas (sum_in context.now.stop (names_in bound.now context.now.vars) room) (places tokens.now)) }
+    ensures { ReadsAs result (with_commas (sum_in context.now.stop (names_in bound.now context.now.vars) room) (places tokens.now)) }
 {
     let (first, behind_first) = sum_in(context, room, bound, tokens)?;
     let mut terms = List::new(context.alloc);

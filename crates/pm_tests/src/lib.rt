@@ -1,4 +1,7 @@
 //! The tests of all crates.
+//!
+//! To add a test: a `#[test]` function in the module of what it is about, through public calls alone, with what is expected
+//! taken from outside. `rt try --test` tries it before it is proved, `rt test` proves and runs it.
 #![tactic(auto)]
 
 #[cfg(test)]
@@ -9,6 +12,8 @@ mod derivation;
 mod devices;
 #[cfg(test)]
 mod given;
+#[cfg(test)]
+mod goals;
 #[cfg(test)]
 mod limits;
 #[cfg(test)]

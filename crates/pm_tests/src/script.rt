@@ -1,11 +1,10 @@
-//! Scripts: how they are cut, sentences, and the names of a goal.
+//! Scripts: how they are cut, and sentences.
 
-ghost use Rattle.std.specs.Prelude.{◌≡◌, [], ◌^◌, ◌<◌, length, IfOk};
+ghost use Rattle.std.specs.Prelude.{◌^◌, ◌<◌, length};
 
 use crate::given::{names, repeated, table, truth};
 use pm_cutter::{Cutter, Ended, Span};
-use pm_goal::{Found, Goal, Hyp, find, left_of};
-use pm_logic::{Bytes, Formula, List, Memory, Name, Pure, Term, UNIT, same, sep, wand};
+use pm_logic::{Bytes, Formula, List, Memory, Pure, Term, same, wand};
 use pm_script::{Directive, Sentence, read_sentence};
 use pm_terms::TextFault::{self, Arity, Deep, Fraction, Number, Unbound, Unexpected};
 use std::alloc::Global;
@@ -303,68 +302,5 @@ fn values_of_numbers(rt: HostRuntime) -> Result<(), Fail> {
         let sentence = read(rt.alloc(), 0, text.as_bytes())?;
         assert!(rt; number_of(&sentence) == Some(expected), "{text}");
     }
-    Ok(())
-}
-
-fn points() -> Formula {
-    Formula::Pts {
-        loc: Term::Lit(1),
-        units: UNIT,
-        val: Term::Lit(2),
-    }
-}
-
-/// One spatial hypothesis.
-fn hypotheses(alloc: Global) -> Result<List<Hyp>, Memory>
-    ensures { IfOk result (λ list. length list ≡ 1) }
-{
-    let mut spats = List::new(alloc);
-    let name = Name::new(alloc, "H")?;
-    spats.push(Hyp {
-        name,
-        formula: points(),
-    })?;
-    Ok(spats)
-}
-
-/// A goal over two variables and that hypothesis.
-fn goal(alloc: Global) -> Result<Goal, Memory>
-    ensures { IfOk result (λ g. (length g.vars ≡ 2) × (g.pures ≡ []) × (g.ints ≡ []) × (length g.spats ≡ 1)) }
-{
-    let mut vars = List::new(alloc);
-    vars.push(Name::new(alloc, "x")?)?;
-    vars.push(Name::new(alloc, "y")?)?;
-    let spats = hypotheses(alloc)?;
-    Ok(Goal {
-        vars,
-        pures: List::new(alloc),
-        ints: List::new(alloc),
-        spats,
-        concl: truth(),
-    })
-}
-
-#[test]
-fn names_of_goals(rt: HostRuntime) -> Result<(), Fail> {
-    let goal = goal(rt.alloc())?;
-    let rows = [
-        ("x", Some(Found::Var(1))),
-        ("y", Some(Found::Var(0))),
-        ("H", Some(Found::Spat(0))),
-        ("K", None),
-    ];
-    for (text, expected) in rows {
-        let name = Name::new(rt.alloc(), text)?;
-        assert!(rt; find(&goal, &name) == expected, "{text}");
-    }
-    Ok(())
-}
-
-#[test]
-fn left_sides(rt: HostRuntime) -> Result<(), Fail> {
-    let goal = goal(rt.alloc())?;
-    let left = left_of(rt.alloc(), &goal)?;
-    let expected = sep(rt.alloc(), points(), truth())?;
-    assert!(rt; same(&left, &expected));
     Ok(())
 }

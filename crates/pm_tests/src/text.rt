@@ -6,10 +6,9 @@ use pm_logic::{
     copy_term, depth, ex, imp, later, neg, or, pers, pure_and, pure_depth, pure_not, pure_or, same,
     same_pure, same_term, scale, sep, sub, term_depth, upd, wand,
 };
-use pm_names::is_name;
-use pm_print::{print_formula, print_pure, print_term};
-use pm_terms::TextFault::{self, Arity, Deep, Fraction, Number, Unbound, Unexpected};
-use pm_text::{read_formula, read_pure, read_term};
+use pm_print::{print_pure, print_term};
+use pm_text::TextFault::{self, Arity, Deep, Fraction, Number, Unbound, Unexpected};
+use pm_text::{is_name, print_formula, read_formula, read_pure, read_term};
 use pm_tokens::{Symbol, Token, tokens};
 use std::alloc::{AllocError, Global};
 use std::test::Fail;

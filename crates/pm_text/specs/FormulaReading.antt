@@ -1,10 +1,13 @@
--- Reading of formulas.
+-- Reading of formulas. To add a production: a line of the grammar below and its equations, the function of the same name in
+-- src/formulas.rt, a constructor of FormulaGrammar in pm_grammar with its cases in proofs/, and a row of Printing in pm_print;
+-- then `rt check` in pm_text, pm_print, pm_grammar and pm_roundtrip.
 --   wand    ::=  or  |  or -∗ wand  |  or → wand  |  or ==∗ wand
 --   or      ::=  star  |  star ∨ or
 --   star    ::=  prefix  |  prefix ∧ star  |  prefix ∗ star
 --   prefix  ::=  ▷ prefix  |  □ prefix  |  ∀ x … , wand  |  ∃ x … , wand  |  |==> wand  |  atom
 --   atom    ::=  ( wand )  |  ⌜ pure or ⌝  |  emp  |  True  |  False  |  p ( terms )  |  operand ↦ operand  |  operand ↦ { n / d } operand
 use Rattle.std.specs.Prelude.{ℕ, zero, suc, ◌*◌, ◌/◌, ◌%◌, Bool, ◌&&◌, not, ◌==◌, nat_le, if◌then◌else◌, List, [], ◌∷◌, drop, length, Option, Some, None, Result, Ok, Err}
+use Rattle.pm_logic.specs.declared.limits.TheConstants.{MAX_LEVELS}
 use Rattle.pm_logic.specs.declared.formula.Term.{Term}
 use Rattle.pm_logic.specs.declared.formula.Pure.{Pure}
 use Rattle.pm_logic.specs.declared.formula.Pure.TheVariants.{True, False}
@@ -238,13 +241,13 @@ module _ (stop : ℕ) (preds : Callables) where
   formula_in zero l names ts = Err (deep_formula l names ts)
   formula_in (suc room) l names ts = formula_at (formula_in room) room names l ts
 
--- ---- Whole texts of a length, whose tokens stop at an offset: at most 199 constructs are open at each token, and the tree is at most 200 deep.
+-- ---- Whole texts of a length, whose tokens stop at an offset: fewer than MAX_LEVELS constructs are open at each token, and the tree is at most MAX_LEVELS deep.
 
 unfoldable pub formula_of : Callables → Names → (end stop : ℕ) → List Place → Result Formula TextFault
-formula_of preds names end stop ts = shallow depth_of (offset stop ts) (all_of end stop (formula_in stop preds 200 level.Wands names ts))
+formula_of preds names end stop ts = shallow depth_of (offset stop ts) (all_of end stop (formula_in stop preds MAX_LEVELS level.Wands names ts))
 
 unfoldable pub pure_of : Names → (end stop : ℕ) → List Place → Result Pure TextFault
-pure_of names end stop ts = shallow pure_depth (offset stop ts) (all_of end stop (pure_in stop names 200 pure_level.Ors ts))
+pure_of names end stop ts = shallow pure_depth (offset stop ts) (all_of end stop (pure_in stop names MAX_LEVELS pure_level.Ors ts))
 
 unfoldable pub term_of : Names → (end stop : ℕ) → List Place → Result Term TextFault
-term_of names end stop ts = shallow term_depth (offset stop ts) (all_of end stop (sum_in stop names 200 ts))
+term_of names end stop ts = shallow term_depth (offset stop ts) (all_of end stop (sum_in stop names MAX_LEVELS ts))

@@ -2,7 +2,7 @@
 
 ghost use Rattle.std.specs.Prelude.{◌≡◌, suc, ◌+◌, ◌<◌, ◌≤◌, length};
 ghost use Rattle.pm_tokens.specs.Tokens.{places};
-ghost use Rattle.pm_terms.specs.Steps.{Answers, Gives, fault_or};
+ghost use Rattle.pm_terms.specs.Steps.{ReadsAs, ReadsExactly, fault_or};
 ghost use Rattle.pm_text.specs.FormulaReading as spec;
 ghost use Rattle.pm_text.specs.Parts.{scope, table, inside, called};
 ghost use Rattle.pm_terms.specs.declared.fault.TextFault.TheVariants.{Deep};
@@ -26,7 +26,7 @@ fn arguments<'a, 'b>(
     tokens: &'a [Placed<'b>],
 ) -> ReadTerms<'a, 'b>
     requires { length bound.now + room ≤ 1000 }
-    ensures { Gives (λ x. (x.0, places x.1.now)) result (spec.arguments context.now.stop (table context.now) (scope context.now bound.now) room (places tokens.now)) }
+    ensures { ReadsAs result (spec.arguments context.now.stop (table context.now) (scope context.now bound.now) room (places tokens.now)) }
 {
     if sees(Symbol::Close, tokens) {
         Ok((List::new(context.alloc), tokens))
@@ -43,7 +43,7 @@ fn call_end<'a, 'b>(
     args: List<Term>,
     tokens: &'a [Placed<'b>],
 ) -> ReadFormula<'a, 'b>
-    ensures { Answers (λ x. (x.0, places x.1.now)) result (spec.call_end context.now.stop (table context.now) (called callee) args (places tokens.now)) }
+    ensures { ReadsExactly result (spec.call_end context.now.stop (table context.now) (called callee) args (places tokens.now)) }
 {
     if !sees(Symbol::Close, tokens) {
         return Err(unexpected(context.stop, tokens));
@@ -87,7 +87,7 @@ fn call_within<'a, 'b>(
     tokens: &'a [Placed<'b>],
 ) -> ReadFormula<'a, 'b>
     requires { length bound.now + room < 1000 }
-    ensures { Gives (λ x. (x.0, places x.1.now)) result (spec.call_in context.now.stop (table context.now) (scope context.now bound.now) (suc room) (called callee) (places tokens.now)) }
+    ensures { ReadsAs result (spec.call_in context.now.stop (table context.now) (scope context.now bound.now) (suc room) (called callee) (places tokens.now)) }
 {
     let (args, rest) = arguments(context, room + 1, bound, tokens)?;
     call_end(context, callee, args, rest)
@@ -102,7 +102,7 @@ fn call_in<'a, 'b>(
     tokens: &'a [Placed<'b>],
 ) -> ReadFormula<'a, 'b>
     requires { length bound.now + room ≤ 1000 }
-    ensures { Gives (λ x. (x.0, places x.1.now)) result (spec.call_in context.now.stop (table context.now) (scope context.now bound.now) room (called callee) (places tokens.now)) }
+    ensures { ReadsAs result (spec.call_in context.now.stop (table context.now) (scope context.now bound.now) room (called callee) (places tokens.now)) }
 {
     if room == 0 {
         Err(deep_call(context, bound, callee, tokens))
@@ -122,7 +122,7 @@ pub fn call_at<'a, 'b>(
     tokens: &'a [Placed<'b>],
 ) -> ReadFormula<'a, 'b>
     requires { length bound.now + room ≤ 1000 }
-    ensures { Gives (λ x. (x.0, places x.1.now)) result (spec.call_at context.now.stop (table context.now) (inside context.now room) room (scope context.now bound.now) name.now at (places tokens.now)) }
+    ensures { ReadsAs result (spec.call_at context.now.stop (table context.now) (inside context.now room) room (scope context.now bound.now) name.now at (places tokens.now)) }
 {
     match callable_of(context, name) {
         Some(callee) => call_in(context, room, bound, callee, tokens),

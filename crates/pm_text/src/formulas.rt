@@ -7,7 +7,7 @@ ghost use Rattle.pm_tokens.specs.declared.symbol.Symbol.TheVariants.{Close, Clos
 ghost use Rattle.pm_tokens.specs.Tokens.{places};
 ghost use Rattle.pm_terms.specs.declared.level.PureLevel.TheVariants as pure_level;
 ghost use Rattle.pm_terms.specs.PureReading.{pure_in};
-ghost use Rattle.pm_terms.specs.Steps.{Gives, closed_by, made};
+ghost use Rattle.pm_terms.specs.Steps.{ReadsAs, closed_by, made};
 ghost use Rattle.pm_text.specs.declared.level.Level.TheVariants as level;
 ghost use Rattle.pm_text.specs.FormulaReading as spec;
 ghost use Rattle.pm_text.specs.Parts.{scope, table, inside, opened, level_under, under, ahead};
@@ -101,7 +101,7 @@ fn fact<'a, 'b>(
     tokens: &'a [Placed<'b>],
 ) -> ReadFormula<'a, 'b>
     requires { length bound.now + room < 1000 }
-    ensures { Gives (λ x. (x.0, places x.1.now)) result (closed_by ClosePure context.now.stop (made Fact (pure_in context.now.stop (scope context.now bound.now) (suc room) pure_level.Ors (places tokens.now)))) }
+    ensures { ReadsAs result (closed_by ClosePure context.now.stop (made Fact (pure_in context.now.stop (scope context.now bound.now) (suc room) pure_level.Ors (places tokens.now)))) }
 {
     let (inner, rest) = pure_in(context, room + 1, PureLevel::Ors, bound, tokens)?;
     let rest = expect(Symbol::ClosePure, context.stop, rest)?;
@@ -118,7 +118,7 @@ fn group<'a, 'b>(
     tokens: &'a [Placed<'b>],
 ) -> ReadFormula<'a, 'b>
     requires { length bound.old.items + room < 1000 }
-    ensures reads { Gives (λ x. (x.0, places x.1.now)) result (closed_by Close context.now.stop (inside context.now room level.Wands (scope context.now bound.old.items) (places tokens.now))) }
+    ensures reads { ReadsAs result (closed_by Close context.now.stop (inside context.now room level.Wands (scope context.now bound.old.items) (places tokens.now))) }
     ensures keeps { OnOk result (bound.new.items ≡ bound.old.items) }
 {
     let (inner, rest) = formula_in(context, room, Level::Wands, bound, tokens)?;
@@ -136,7 +136,7 @@ fn modal<'a, 'b>(
     tokens: &'a [Placed<'b>],
 ) -> ReadFormula<'a, 'b>
     requires { length bound.old.items + room < 1000 }
-    ensures reads { Gives (λ x. (x.0, places x.1.now)) result (made (under modality) (inside context.now room (level_under modality) (scope context.now bound.old.items) (places tokens.now))) }
+    ensures reads { ReadsAs result (made (under modality) (inside context.now room (level_under modality) (scope context.now bound.old.items) (places tokens.now))) }
     ensures keeps { OnOk result (bound.new.items ≡ bound.old.items) }
 {
     let (inner, rest) = formula_in(context, room, level_under(modality), bound, tokens)?;
@@ -154,7 +154,7 @@ fn opened<'a, 'b>(
     tokens: &'a [Placed<'b>],
 ) -> ReadFormula<'a, 'b>
     requires { length bound.old.items + room < 1000 }
-    ensures reads { Gives (λ x. (x.0, places x.1.now)) result (opened context.now.stop (table context.now) (inside context.now room) room (scope context.now bound.old.items) opening (places tokens.now)) }
+    ensures reads { ReadsAs result (opened context.now.stop (table context.now) (inside context.now room) room (scope context.now bound.old.items) opening (places tokens.now)) }
     ensures keeps { OnOk result (bound.new.items ≡ bound.old.items) }
 {
     let rest = behind(tokens);
@@ -185,7 +185,7 @@ fn prefix_at<'a, 'b>(
     tokens: &'a [Placed<'b>],
 ) -> ReadFormula<'a, 'b>
     requires { length bound.old.items + room < 1000 }
-    ensures reads { Gives (λ x. (x.0, places x.1.now)) result (spec.prefix_at context.now.stop (table context.now) (inside context.now room) room (scope context.now bound.old.items) (places tokens.now)) }
+    ensures reads { ReadsAs result (spec.prefix_at context.now.stop (table context.now) (inside context.now room) room (scope context.now bound.old.items) (places tokens.now)) }
     ensures keeps { OnOk result (bound.new.items ≡ bound.old.items) }
 {
     let [first, rest @ ..] = tokens else {
@@ -222,7 +222,7 @@ fn right_side<'a, 'b>(
     tokens: &'a [Placed<'b>],
 ) -> ReadFormula<'a, 'b>
     requires { length bound.old.items + room < 1000 }
-    ensures reads { Gives (λ x. (x.0, places x.1.now)) result (made (spec.joined sign left) (inside context.now room (spec.right_of sign) (scope context.now bound.old.items) (places tokens.now))) }
+    ensures reads { ReadsAs result (made (spec.joined sign left) (inside context.now room (spec.right_of sign) (scope context.now bound.old.items) (places tokens.now))) }
     ensures keeps { OnOk result (bound.new.items ≡ bound.old.items) }
 {
     let (right, rest) = formula_in(context, room, right_of(sign), bound, tokens)?;
@@ -241,7 +241,7 @@ fn infix_at<'a, 'b>(
     tokens: &'a [Placed<'b>],
 ) -> ReadFormula<'a, 'b>
     requires { length bound.old.items + room < 1000 }
-    ensures reads { Gives (λ x. (x.0, places x.1.now)) result (spec.infix_at context.now.stop (table context.now) (inside context.now room) room (scope context.now bound.old.items) level left (places tokens.now)) }
+    ensures reads { ReadsAs result (spec.infix_at context.now.stop (table context.now) (inside context.now room) room (scope context.now bound.old.items) level left (places tokens.now)) }
     ensures keeps { OnOk result (bound.new.items ≡ bound.old.items) }
 {
     match next_infix(level, tokens) {
@@ -261,7 +261,7 @@ fn behind_name<'a, 'b>(
     tokens: &'a [Placed<'b>],
 ) -> ReadFormula<'a, 'b>
     requires { length bound.old.items + room < 1000 }
-    ensures reads { Gives (λ x. (x.0, places x.1.now)) result (spec.behind_name context.now.stop (table context.now) (inside context.now room) room (scope context.now bound.old.items) binder (places tokens.now)) }
+    ensures reads { ReadsAs result (spec.behind_name context.now.stop (table context.now) (inside context.now room) room (scope context.now bound.old.items) binder (places tokens.now)) }
     ensures keeps { OnOk result (bound.new.items ≡ bound.old.items) }
 {
     let [first, rest @ ..] = tokens else {
@@ -292,7 +292,7 @@ fn with_name<'a, 'b>(
     tokens: &'a [Placed<'b>],
 ) -> ReadFormula<'a, 'b>
     requires { length bound.old.items + room < 999 }
-    ensures reads { Gives (λ x. (x.0, places x.1.now)) result (made (spec.quantified binder) (spec.behind_name context.now.stop (table context.now) (inside context.now room) room (name.now ∷ scope context.now bound.old.items) binder (places tokens.now))) }
+    ensures reads { ReadsAs result (made (spec.quantified binder) (spec.behind_name context.now.stop (table context.now) (inside context.now room) room (name.now ∷ scope context.now bound.old.items) binder (places tokens.now))) }
     ensures keeps { OnOk result (bound.new.items ≡ bound.old.items) }
 {
     bound.push(name)?;
@@ -312,7 +312,7 @@ fn names_at<'a, 'b>(
     tokens: &'a [Placed<'b>],
 ) -> ReadFormula<'a, 'b>
     requires { length bound.old.items + room < 999 }
-    ensures reads { Gives (λ x. (x.0, places x.1.now)) result (spec.names_at context.now.stop (table context.now) (inside context.now room) room (scope context.now bound.old.items) binder (places tokens.now)) }
+    ensures reads { ReadsAs result (spec.names_at context.now.stop (table context.now) (inside context.now room) room (scope context.now bound.old.items) binder (places tokens.now)) }
     ensures keeps { OnOk result (bound.new.items ≡ bound.old.items) }
 {
     let [first, rest @ ..] = tokens else {
@@ -336,7 +336,7 @@ fn formula_at<'a, 'b>(
     tokens: &'a [Placed<'b>],
 ) -> ReadFormula<'a, 'b>
     requires { length bound.old.items + room + ahead level < 1000 }
-    ensures reads { Gives (λ x. (x.0, places x.1.now)) result (spec.formula_at context.now.stop (table context.now) (inside context.now room) room (scope context.now bound.old.items) level (places tokens.now)) }
+    ensures reads { ReadsAs result (spec.formula_at context.now.stop (table context.now) (inside context.now room) room (scope context.now bound.old.items) level (places tokens.now)) }
     ensures keeps { OnOk result (bound.new.items ≡ bound.old.items) }
 {
     match level {
@@ -370,7 +370,7 @@ pub fn formula_in<'a, 'b>(
     tokens: &'a [Placed<'b>],
 ) -> ReadFormula<'a, 'b>
     requires { length bound.old.items + room < 1000 }
-    ensures reads { Gives (λ x. (x.0, places x.1.now)) result (spec.formula_in context.now.stop (table context.now) room level (scope context.now bound.old.items) (places tokens.now)) }
+    ensures reads { ReadsAs result (spec.formula_in context.now.stop (table context.now) room level (scope context.now bound.old.items) (places tokens.now)) }
     ensures keeps { OnOk result (bound.new.items ≡ bound.old.items) }
 {
     if room == 0 {

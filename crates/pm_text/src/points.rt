@@ -2,7 +2,7 @@
 
 ghost use Rattle.std.specs.Prelude.{◌≡◌, suc, ◌+◌, ◌<◌, ◌≤◌, length};
 ghost use Rattle.pm_tokens.specs.Tokens.{places};
-ghost use Rattle.pm_terms.specs.Steps.{Gives};
+ghost use Rattle.pm_terms.specs.Steps.{ReadsAs};
 ghost use Rattle.pm_text.specs.FormulaReading as spec;
 ghost use Rattle.pm_text.specs.Parts.{scope, table, inside};
 
@@ -45,7 +45,7 @@ fn value_at<'a, 'b>(
     tokens: &'a [Placed<'b>],
 ) -> ReadFormula<'a, 'b>
     requires { length bound.now + room < 1000 }
-    ensures { Gives (λ x. (x.0, places x.1.now)) result (spec.value_in context.now.stop (table context.now) (scope context.now bound.now) (suc room) loc (places tokens.now)) }
+    ensures { ReadsAs result (spec.value_in context.now.stop (table context.now) (scope context.now bound.now) (suc room) loc (places tokens.now)) }
 {
     let (units, rest) = units(context.stop, tokens)?;
     let (val, rest) = operand_in(context, room + 1, bound, rest)?;
@@ -61,7 +61,7 @@ fn value_in<'a, 'b>(
     tokens: &'a [Placed<'b>],
 ) -> ReadFormula<'a, 'b>
     requires { length bound.now + room ≤ 1000 }
-    ensures { Gives (λ x. (x.0, places x.1.now)) result (spec.value_in context.now.stop (table context.now) (scope context.now bound.now) room loc (places tokens.now)) }
+    ensures { ReadsAs result (spec.value_in context.now.stop (table context.now) (scope context.now bound.now) room loc (places tokens.now)) }
 {
     if room == 0 {
         Err(deep_value(context, bound, tokens))
@@ -79,7 +79,7 @@ pub fn points_to<'a, 'b>(
     tokens: &'a [Placed<'b>],
 ) -> ReadFormula<'a, 'b>
     requires { length bound.now + room < 1000 }
-    ensures { Gives (λ x. (x.0, places x.1.now)) result (spec.points_to_at context.now.stop (table context.now) (inside context.now room) room (scope context.now bound.now) (places tokens.now)) }
+    ensures { ReadsAs result (spec.points_to_at context.now.stop (table context.now) (inside context.now room) room (scope context.now bound.now) (places tokens.now)) }
 {
     let (loc, rest) = operand_in(context, room + 1, bound, tokens)?;
     let rest = expect(Symbol::PointsTo, context.stop, rest)?;

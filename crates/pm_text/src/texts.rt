@@ -1,12 +1,13 @@
 //! Whole texts. The offset of a fault is counted from the text's first byte on, which is at `base`.
 
 ghost use Rattle.std.specs.Prelude.{◌≡◌, ℕ, ◌+◌, ◌<◌, ◌≤◌, ◌^◌, List, Result, None, length, IfOk};
+ghost use Rattle.pm_logic.specs.declared.limits.TheConstants.{MAX_NAMES, MAX_TABLE};
 ghost use Rattle.pm_logic.specs.declared.formula.Pred.{Pred};
 ghost use Rattle.pm_tokens.specs.Tokens.{Place, places};
 ghost use Rattle.pm_tokens.specs.Texts as texts;
 ghost use Rattle.pm_terms.specs.declared.fault.TextFault.{TextFault};
 ghost use Rattle.pm_terms.specs.Scope.{Names, callables};
-ghost use Rattle.pm_terms.specs.Steps.{Gives, counted_from};
+ghost use Rattle.pm_terms.specs.Steps.{ReadsWhole, counted_from};
 ghost use Rattle.pm_text.specs.FormulaReading as spec;
 ghost use Rattle.pm_text.specs.TextReading as reading;
 
@@ -31,7 +32,7 @@ pub trait Readable: Drop {
     fn whole(context: &Context<'_>, end: usize, tokens: &[Placed<'_>]) -> Result<Self, TextFault>
         requires short { length tokens.now ≤ most }
         requires outside { context.now.own ≡ None }
-        ensures { Gives (λ x. x) result (whole context.now.preds.now context.now.vars end context.now.stop (places tokens.now)) };
+        ensures { ReadsWhole result (whole context.now.preds.now context.now.vars end context.now.stop (places tokens.now)) };
 }
 
 impl Readable for Formula {
@@ -88,9 +89,9 @@ fn read_tokens<'a, T: Readable>(
     preds: &'a Preds,
 ) -> Result<T, TextFault>
     requires short { length text.now ≤ T.most }
-    requires few_vars { length vars.now ≤ 999000 }
-    requires few_preds { length preds.now.list ≤ 1000000 }
-    ensures { Gives (λ x. x) result (T.whole preds.now.list vars.now (length text.now) (texts.tokens text.now).1 (texts.tokens text.now).0) }
+    requires few_vars { length vars.now ≤ MAX_NAMES }
+    requires few_preds { length preds.now.list ≤ MAX_TABLE }
+    ensures { ReadsWhole result (T.whole preds.now.list vars.now (length text.now) (texts.tokens text.now).1 (texts.tokens text.now).0) }
 {
     let found = all_tokens(alloc, text)?;
     let context = Context {
@@ -114,9 +115,9 @@ pub fn read_text<T: Readable>(
 ) -> Result<T, TextFault>
     requires place { base + length text.now < 2 ^ 64 }
     requires short { length text.now ≤ T.most }
-    requires few_vars { length vars.now ≤ 999000 }
-    requires few_preds { length preds.now.list ≤ 1000000 }
-    ensures { Gives (λ x. x) result (counted_from base (T.whole preds.now.list vars.now (length text.now) (texts.tokens text.now).1 (texts.tokens text.now).0)) }
+    requires few_vars { length vars.now ≤ MAX_NAMES }
+    requires few_preds { length preds.now.list ≤ MAX_TABLE }
+    ensures { ReadsWhole result (counted_from base (T.whole preds.now.list vars.now (length text.now) (texts.tokens text.now).1 (texts.tokens text.now).0)) }
 {
     match read_tokens(alloc, text, vars, preds) {
         Ok(found) => Ok(found),
@@ -134,9 +135,9 @@ pub fn read_formula(
     preds: &Preds,
 ) -> Result<Formula, TextFault>
     requires place { base + length text.now < 2 ^ 64 }
-    requires few_vars { length vars.now ≤ 999000 }
-    requires few_preds { length preds.now.list ≤ 1000000 }
-    ensures { Gives (λ x. x) result (reading.read_formula base preds.now.list vars.now text.now) }
+    requires few_vars { length vars.now ≤ MAX_NAMES }
+    requires few_preds { length preds.now.list ≤ MAX_TABLE }
+    ensures { ReadsWhole result (reading.read_formula base preds.now.list vars.now text.now) }
 {
     read_text(alloc, text, base, vars, preds)
 }
@@ -151,9 +152,9 @@ pub fn read_pure(
     preds: &Preds,
 ) -> Result<Pure, TextFault>
     requires place { base + length text.now < 2 ^ 64 }
-    requires few_vars { length vars.now ≤ 999000 }
-    requires few_preds { length preds.now.list ≤ 1000000 }
-    ensures { Gives (λ x. x) result (reading.read_pure base vars.now text.now) }
+    requires few_vars { length vars.now ≤ MAX_NAMES }
+    requires few_preds { length preds.now.list ≤ MAX_TABLE }
+    ensures { ReadsWhole result (reading.read_pure base vars.now text.now) }
 {
     read_text(alloc, text, base, vars, preds)
 }
@@ -168,9 +169,9 @@ pub fn read_term(
     preds: &Preds,
 ) -> Result<Term, TextFault>
     requires place { base + length text.now < 2 ^ 64 }
-    requires few_vars { length vars.now ≤ 999000 }
-    requires few_preds { length preds.now.list ≤ 1000000 }
-    ensures { Gives (λ x. x) result (reading.read_term base vars.now text.now) }
+    requires few_vars { length vars.now ≤ MAX_NAMES }
+    requires few_preds { length preds.now.list ≤ MAX_TABLE }
+    ensures { ReadsWhole result (reading.read_term base vars.now text.now) }
 {
     read_text(alloc, text, base, vars, preds)
 }

@@ -1,12 +1,13 @@
 //! Trees that are read from tokens, and to the end of a text.
 
 ghost use Rattle.std.specs.Prelude.{◌≡◌, ℕ, List, nat_le};
+ghost use Rattle.pm_logic.specs.declared.limits.TheConstants.{MAX_LEVELS};
 ghost use Rattle.pm_logic.specs.Size as size;
 ghost use Rattle.pm_tokens.specs.Tokens.{Place, places};
 ghost use Rattle.pm_terms.specs.declared.level.PureLevel.TheVariants as pure_level;
 ghost use Rattle.pm_terms.specs.PureReading.{pure_in};
 ghost use Rattle.pm_terms.specs.Scope.{Callables, Names};
-ghost use Rattle.pm_terms.specs.Steps.{Gives, Read, all_of, offset, shallow};
+ghost use Rattle.pm_terms.specs.Steps.{ReadsAs, ReadsWhole, Read, all_of, offset, shallow};
 ghost use Rattle.pm_terms.specs.TermReading.{sum_in};
 ghost use Rattle.pm_text.specs.declared.level.Level.TheVariants as level;
 ghost use Rattle.pm_text.specs.FormulaReading.{formula_in};
@@ -15,16 +16,10 @@ ghost use Rattle.pm_text.specs.Parts.{table};
 use crate::formulas::formula_in;
 use crate::level::Level;
 use crate::points::ReadFormula;
-use pm_logic::{Formula, Pure, Term, depth, pure_depth, term_depth};
+use pm_logic::{Formula, MAX_LEVELS, Pure, Term, depth, pure_depth, term_depth};
 use pm_terms::{Context, PureLevel, TextFault, is_whole, offset, pure_in, sum_in, unexpected};
 use pm_tokens::Placed;
 use smallvec::SmallVec;
-
-/// The most constructs that are open at a token, and one more.
-const ROOM: u32 = 200;
-
-/// The most levels of a tree.
-const LEVELS: u32 = 200;
 
 /// A formula, a pure formula or a term.
 pub trait Tree: Drop {
@@ -40,31 +35,31 @@ pub trait Tree: Drop {
         context: &Context<'_>,
         tokens: &'a [Placed<'b>],
     ) -> Result<(Self, &'a [Placed<'b>]), TextFault>
-        ensures { Gives (λ x. (x.0, places x.1.now)) result (reads context.now.stop (table context.now) context.now.vars (places tokens.now)) };
+        ensures { ReadsAs result (reads context.now.stop (table context.now) context.now.vars (places tokens.now)) };
 
     /// Whether the tree has no more levels than may be.
     fn is_shallow(&self) -> bool
-        ensures { result ≡ nat_le (levels self.now) 200 };
+        ensures { result ≡ nat_le (levels self.now) MAX_LEVELS };
 }
 
 impl Tree for Formula {
-    ghost reads = { λ stop preds. formula_in stop preds 200 level.Wands };
+    ghost reads = { λ stop preds. formula_in stop preds MAX_LEVELS level.Wands };
 
     ghost levels = { size.depth_of };
 
     #[tactic(auto, unfolding(pm_terms::specs::Scope::names_in))]
     fn read<'a, 'b>(context: &Context<'_>, tokens: &'a [Placed<'b>]) -> ReadFormula<'a, 'b> {
         let mut bound = SmallVec::new(context.alloc);
-        formula_in(context, ROOM, Level::Wands, &mut bound, tokens)
+        formula_in(context, MAX_LEVELS, Level::Wands, &mut bound, tokens)
     }
 
     fn is_shallow(&self) -> bool {
-        depth(self) <= LEVELS
+        depth(self) <= MAX_LEVELS
     }
 }
 
 impl Tree for Pure {
-    ghost reads = { λ stop _ names. pure_in stop names 200 pure_level.Ors };
+    ghost reads = { λ stop _ names. pure_in stop names MAX_LEVELS pure_level.Ors };
 
     ghost levels = { size.pure_depth };
 
@@ -73,16 +68,16 @@ impl Tree for Pure {
         context: &Context<'_>,
         tokens: &'a [Placed<'b>],
     ) -> Result<(Pure, &'a [Placed<'b>]), TextFault> {
-        pure_in(context, ROOM, PureLevel::Ors, &[], tokens)
+        pure_in(context, MAX_LEVELS, PureLevel::Ors, &[], tokens)
     }
 
     fn is_shallow(&self) -> bool {
-        pure_depth(self) <= LEVELS
+        pure_depth(self) <= MAX_LEVELS
     }
 }
 
 impl Tree for Term {
-    ghost reads = { λ stop _ names. sum_in stop names 200 };
+    ghost reads = { λ stop _ names. sum_in stop names MAX_LEVELS };
 
     ghost levels = { size.term_depth };
 
@@ -91,11 +86,11 @@ impl Tree for Term {
         context: &Context<'_>,
         tokens: &'a [Placed<'b>],
     ) -> Result<(Term, &'a [Placed<'b>]), TextFault> {
-        sum_in(context, ROOM, &[], tokens)
+        sum_in(context, MAX_LEVELS, &[], tokens)
     }
 
     fn is_shallow(&self) -> bool {
-        term_depth(self) <= LEVELS
+        term_depth(self) <= MAX_LEVELS
     }
 }
 
@@ -106,7 +101,7 @@ fn tree_to_end<T: Tree>(
     end: usize,
     tokens: &[Placed<'_>],
 ) -> Result<T, TextFault>
-    ensures { Gives (λ x. x) result (all_of end context.now.stop (T.reads context.now.stop (table context.now) context.now.vars (places tokens.now))) }
+    ensures { ReadsWhole result (all_of end context.now.stop (T.reads context.now.stop (table context.now) context.now.vars (places tokens.now))) }
 {
     let (tree, rest) = T::read(context, tokens)?;
     if is_whole(end, context.stop, rest) {
@@ -123,7 +118,7 @@ pub fn whole_tree<T: Tree>(
     end: usize,
     tokens: &[Placed<'_>],
 ) -> Result<T, TextFault>
-    ensures { Gives (λ x. x) result (shallow T.levels (offset context.now.stop (places tokens.now)) (all_of end context.now.stop (T.reads context.now.stop (table context.now) context.now.vars (places tokens.now)))) }
+    ensures { ReadsWhole result (shallow T.levels (offset context.now.stop (places tokens.now)) (all_of end context.now.stop (T.reads context.now.stop (table context.now) context.now.vars (places tokens.now)))) }
 {
     let tree: T = tree_to_end(context, end, tokens)?;
     if tree.is_shallow() {

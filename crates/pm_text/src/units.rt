@@ -3,7 +3,7 @@
 ghost use Rattle.std.specs.Prelude.{◌≡◌, ◌<◌, ◌≤◌, ◌*◌, ◌^◌, length, Result};
 ghost use Rattle.pm_tokens.specs.Tokens.{places};
 ghost use Rattle.pm_terms.specs.Steps as steps;
-ghost use Rattle.pm_terms.specs.Steps.{Answers};
+ghost use Rattle.pm_terms.specs.Steps.{ReadsExactly};
 ghost use Rattle.pm_text.specs.FormulaReading as spec;
 ghost use Rattle.pm_text.specs.Parts.{shared};
 
@@ -44,7 +44,7 @@ fn share(n: u64, d: u64, at: usize) -> Result<u32, TextFault>
 /// The number behind the slash.
 #[tactic(auto, unfolding(pm_terms::specs::Steps::digits))]
 fn share_at<'a, 'b>(stop: usize, n: u64, tokens: &'a [Placed<'b>]) -> ReadUnits<'a, 'b>
-    ensures { Answers (λ x. (x.0, places x.1.now)) result (steps.digits stop (spec.share n) (places tokens.now)) }
+    ensures { ReadsExactly result (steps.digits stop (spec.share n) (places tokens.now)) }
 {
     let [first, rest @ ..] = tokens else {
         return Err(TextFault::Unexpected(stop as u64));
@@ -57,7 +57,7 @@ fn share_at<'a, 'b>(stop: usize, n: u64, tokens: &'a [Placed<'b>]) -> ReadUnits<
 
 #[tactic(auto, unfolding(crate::specs::FormulaReading::fraction))]
 fn fraction<'a, 'b>(stop: usize, tokens: &'a [Placed<'b>]) -> ReadUnits<'a, 'b>
-    ensures { Answers (λ x. (x.0, places x.1.now)) result (spec.fraction stop (places tokens.now)) }
+    ensures { ReadsExactly result (spec.fraction stop (places tokens.now)) }
 {
     let (n, rest) = read_natural(stop, tokens)?;
     let rest = expect(Symbol::Slash, stop, rest)?;
@@ -69,7 +69,7 @@ fn fraction<'a, 'b>(stop: usize, tokens: &'a [Placed<'b>]) -> ReadUnits<'a, 'b>
 /// The units of a points-to, a whole where none are named.
 #[tactic(auto, unfolding(crate::specs::FormulaReading::units))]
 pub fn units<'a, 'b>(stop: usize, tokens: &'a [Placed<'b>]) -> ReadUnits<'a, 'b>
-    ensures { Answers (λ x. (x.0, places x.1.now)) result (spec.units stop (places tokens.now)) }
+    ensures { ReadsExactly result (spec.units stop (places tokens.now)) }
 {
     if sees(Symbol::OpenBrace, tokens) {
         fraction(stop, behind(tokens))

@@ -1,4 +1,7 @@
 //! The spellings of the symbols.
+//!
+//! To add a symbol: a variant in symbol.rt, a row here and in specs/Symbols, and its places in the readers above (pm_terms,
+//! pm_text, pm_patterns, pm_script). `rt check` here, then in those.
 
 ghost use Rattle.std.specs.Prelude.{◌≡◌, ◌≤◌, ◌<◌, length, map, IsTrue, IfSome};
 ghost use Rattle.pm_tokens.specs.Symbols.{begins, longer, row_at, longest, keyword, symbol_at};

@@ -23,7 +23,7 @@ one_answer bytes _ _ _ _ few (refuses f o) (refuses g p) = let same = verdicts_a
 accepts_not : (f : CheckFault) → offence_status f ≡ status.Done → ⊥
 unfolding offence_status
 accepts_not (fault.Syntax at) e = cc
-accepts_not (fault.Refused n unmet) e = cc
+accepts_not (fault.Refused n failed) e = cc
 accepts_not (fault.NoLine n cited) e = cc
 accepts_not (fault.Unguarded p) e = cc
 accepts_not (fault.Deep at) e = cc

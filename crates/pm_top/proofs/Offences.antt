@@ -1,7 +1,6 @@
 -- The checker's faults: what they name, and the lines for them.
 use Rattle.std.proofs.Common.{◌≡◌, ℕ, ◌-◌, List, sym, ap, subst, subst₂, arith, Option, Some, inl, inr, Result, Ok, Err}
 use Rattle.std.specs.Prelude.{slice_get}
-use Rattle.pm_rules.specs.declared.rules.Unmet.{Unmet}
 use Rattle.pm_rules.specs.declared.rules.Rule.{Rule}
 use Rattle.pm_rules.specs.declared.rules.Rule.TheVariants.{Refl, Trans, Inst, True, False, AndL, AndR, AndI, OrL, OrR, OrE, ImpI, ImpE, AllI, AllE, ExI, ExE, SepMono, SepComm, SepAssocR, SepAssocL, SepUnit, SepWeaken, WandI, WandE, LaterMono, LaterIntro, Loeb, LaterSep, SepLater, LaterAnd, LaterOr, LaterAll, LaterEx, PersMono, PersElim, PersIdem, PersDup, PersPure, PersAnd, PersOr, PersAll, PersEx, PersLater, LaterPers, UpdMono, UpdIntro, UpdTrans, UpdFrame, UpdPure, PureAnd, AndPure, PureOr, OrPure, Not, Em, Linear, Rewrite, PtsSplit, PtsJoin, PtsAgree, PtsOver, PtsWrite, PtsNew, Fold, Unfold, Timeless}
 use Rattle.pm_rules.specs.Rules.{rule_number}
@@ -10,7 +9,9 @@ use Rattle.pm_dtext.specs.declared.fault.Fault.TheVariants as reading
 use Rattle.pm_dtext.specs.Texts.{printed_names}
 use Rattle.pm_check.specs.declared.checked.Checked.{Checked}
 use Rattle.pm_check.specs.declared.fault.CheckFault.{CheckFault}
+use Rattle.pm_check.specs.declared.fault.Failed.{Failed}
 use Rattle.pm_check.specs.declared.fault.CheckFault.TheVariants as fault
+use Rattle.pm_check.specs.Lines.{failed_rule}
 use Rattle.pm_check.specs.Offence.{FirstOffence, placed}
 use Rattle.pm_check.specs.Answers.{IfTold, IsTooLong, Judges, WasJudged, IsChecked}
 use Rattle.pm_top.specs.declared.command.Command.TheVariants.{Check}
@@ -108,17 +109,17 @@ names_rule bytes _ (FirstOffence.predicate table preds arity rest f is begins ha
 names_rule bytes _ (FirstOffence.unguarded table preds q rest is begins fits not) = tt
 names_rule bytes _ (FirstOffence.line preds ls rest f begins some e) = placed_is bytes _ f
 names_rule bytes _ (FirstOffence.step preds ls rule first second e rest unmet begins fits fails) = subst IsNamed (sym fails.rule_is) (rule_named rule)
-names_rule bytes _ (FirstOffence.qed preds ls name cited rest unmet begins fits fails) = subst IsNamed (sym fails.rule_is) (record { some = omega arith; within = omega arith })
+names_rule bytes _ (FirstOffence.qed preds ls name cited rest condition begins fits fails) = record { some = omega arith; within = omega arith }
 
 -- what was judged names a rule
-judged_names : (bytes : List ℕ) (n : ℕ) (unmet : Unmet) → Judges bytes (Err (fault.Refused n unmet)) → NamesRule (fault.Refused n unmet)
-judged_names bytes n unmet (inl e) = absurd cc
-judged_names bytes n unmet (inr o) = names_rule bytes (fault.Refused n unmet) o
+judged_names : (bytes : List ℕ) (n : ℕ) (failed : Failed) → Judges bytes (Err (fault.Refused n failed)) → NamesRule (fault.Refused n failed)
+judged_names bytes n failed (inl e) = absurd cc
+judged_names bytes n failed (inr o) = names_rule bytes (fault.Refused n failed) o
 
 pub checked_names : (input : Option (List ℕ)) (r : Result Checked CheckFault) (f : CheckFault) → r ≡ Err f → IsChecked input r → NamesRule f
 unfolding NamesRule
 checked_names input r (fault.Syntax at) e c = tt
-checked_names input r (fault.Refused n unmet) e c = let w : WasJudged input (Err (fault.Refused n unmet)) = subst (IsChecked input) e c in judged_names w.bytes n unmet w.judges
+checked_names input r (fault.Refused n failed) e c = let w : WasJudged input (Err (fault.Refused n failed)) = subst (IsChecked input) e c in judged_names w.bytes n failed w.judges
 checked_names input r (fault.NoLine n cited) e c = tt
 checked_names input r (fault.Unguarded p) e c = tt
 checked_names input r (fault.Deep at) e c = tt
@@ -126,16 +127,16 @@ checked_names input r fault.Long e c = tt
 checked_names input r fault.Read e c = tt
 checked_names input r fault.Memory e c = tt
 
-pub names_is : (f : CheckFault) (n : ℕ) (unmet : Unmet) → f ≡ fault.Refused n unmet → NamesRule f → IsNamed unmet.rule
+pub names_is : (f : CheckFault) (n : ℕ) (failed : Failed) → f ≡ fault.Refused n failed → NamesRule f → IsNamed (failed_rule failed)
 unfolding NamesRule
-names_is f n unmet e h = subst NamesRule e h
+names_is f n failed e h = subst NamesRule e h
 
 -- ---- what is told
 
 pub told_answers : (f : CheckFault) (s : Status) → IsTold f → s ≡ offence_status f → IsAnswer s
 unfolding IsTold offence_status
 told_answers (fault.Syntax at) s told e = subst IsAnswer (sym e) tt
-told_answers (fault.Refused n unmet) s told e = subst IsAnswer (sym e) tt
+told_answers (fault.Refused n failed) s told e = subst IsAnswer (sym e) tt
 told_answers (fault.NoLine n cited) s told e = subst IsAnswer (sym e) tt
 told_answers (fault.Unguarded p) s told e = subst IsAnswer (sym e) tt
 told_answers (fault.Deep at) s told e = subst IsAnswer (sym e) tt
@@ -146,7 +147,7 @@ told_answers fault.Memory s told e = absurd told
 pub told_not_done : (f : CheckFault) (s : Status) → IsTold f → s ≡ offence_status f → s ≡ status.Done → ⊥
 unfolding IsTold offence_status
 told_not_done (fault.Syntax at) s told e d = cc
-told_not_done (fault.Refused n unmet) s told e d = cc
+told_not_done (fault.Refused n failed) s told e d = cc
 told_not_done (fault.NoLine n cited) s told e d = cc
 told_not_done (fault.Unguarded p) s told e d = cc
 told_not_done (fault.Deep at) s told e d = cc
@@ -167,7 +168,7 @@ defines_long input h = Defines.too_long Check input h
 defines_fault : (input : Option (List ℕ)) (f : CheckFault) → IsChecked input (Err f) → IsTold f → Defines (Some Check) input (offence_status f) (offence_line f)
 unfolding IsTold
 defines_fault input (fault.Syntax at) c told = defines_judged input (fault.Syntax at) c (λ e. cc)
-defines_fault input (fault.Refused n unmet) c told = defines_judged input (fault.Refused n unmet) c (λ e. cc)
+defines_fault input (fault.Refused n failed) c told = defines_judged input (fault.Refused n failed) c (λ e. cc)
 defines_fault input (fault.NoLine n cited) c told = defines_judged input (fault.NoLine n cited) c (λ e. cc)
 defines_fault input (fault.Unguarded p) c told = defines_judged input (fault.Unguarded p) c (λ e. cc)
 defines_fault input (fault.Deep at) c told = defines_judged input (fault.Deep at) c (λ e. cc)

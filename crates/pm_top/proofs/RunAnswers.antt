@@ -7,7 +7,7 @@ use Rattle.pm_logic.specs.declared.formula.Pred.{Pred}
 use Rattle.pm_check.specs.declared.checked.Statement.{Statement}
 use Rattle.pm_check.proofs.Truth.{statements_true}
 use Rattle.pm_terms.specs.declared.fault.TextFault.{TextFault}
-use Rattle.pm_run.specs.declared.row.Refusal.{Refusal}
+use Rattle.pm_goal.specs.declared.refusal.Refusal.{Refusal}
 use Rattle.pm_run.specs.declared.ran.Ran.{Ran}
 use Rattle.pm_run.specs.declared.ran.Ran.TheVariants as ran
 use Rattle.pm_run.specs.Coming.{ComesTo}

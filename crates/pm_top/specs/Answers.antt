@@ -10,11 +10,12 @@ use Rattle.pm_dtext.specs.Texts.{printed_names}
 use Rattle.pm_check.specs.declared.checked.Statement.{Statement}
 use Rattle.pm_check.specs.declared.fault.CheckFault.{CheckFault}
 use Rattle.pm_check.specs.declared.fault.CheckFault.TheVariants as offence
+use Rattle.pm_check.specs.Lines.{failed_rule, failed_condition}
 use Rattle.pm_check.specs.Derivation.{IsDerivation}
 use Rattle.pm_check.specs.Offence.{FirstOffence}
 use Rattle.pm_check.specs.Answers.{IsTooLong, IfTold}
 use Rattle.pm_terms.specs.declared.fault.TextFault.{TextFault}
-use Rattle.pm_run.specs.declared.row.Refusal.{Refusal}
+use Rattle.pm_goal.specs.declared.refusal.Refusal.{Refusal}
 use Rattle.pm_run.specs.Runs.{refused, unreadable, RunsTo}
 use Rattle.pm_run.specs.Coming.{limit, Proves}
 use Rattle.pm_top.specs.Printed.{line_feed, accepted_text}
@@ -44,7 +45,7 @@ rule_text rule = text_or_none (slice_get printed_names (rule - 1))
 -- the line for the first offence of a derivation text
 unfoldable pub offence_line : CheckFault → List ℕ
 offence_line (offence.Syntax at) = codes "unreadable at " ++ (decimal at ++ (codes ": syntax" ++ line_feed))
-offence_line (offence.Refused n unmet) = codes "refused: line " ++ (decimal n ++ (codes ": " ++ (rule_text unmet.rule ++ (codes " condition " ++ (decimal unmet.condition ++ line_feed)))))
+offence_line (offence.Refused n failed) = codes "refused: line " ++ (decimal n ++ (codes ": " ++ (rule_text (failed_rule failed) ++ (codes " condition " ++ (decimal (failed_condition failed) ++ line_feed)))))
 offence_line (offence.NoLine n cited) = codes "refused: line " ++ (decimal n ++ (codes " cites " ++ (decimal cited ++ line_feed)))
 offence_line (offence.Unguarded p) = codes "refused: predicate " ++ (decimal p ++ (codes " is unguarded" ++ line_feed))
 offence_line (offence.Deep at) = codes "unreadable at " ++ (decimal at ++ (codes ": deep" ++ line_feed))
@@ -54,7 +55,7 @@ offence_line offence.Memory = []
 
 unfoldable pub offence_status : CheckFault → Status
 offence_status (offence.Syntax at) = status.Unreadable
-offence_status (offence.Refused n unmet) = status.Refused
+offence_status (offence.Refused n failed) = status.Refused
 offence_status (offence.NoLine n cited) = status.Refused
 offence_status (offence.Unguarded p) = status.Refused
 offence_status (offence.Deep at) = status.Unreadable

@@ -2,6 +2,7 @@
 use Rattle.std.specs.Prelude.{◌≡◌, ◌⊎◌, ℕ, ◌≤◌, List, Result, Ok, Err}
 use Rattle.pm_check.specs.declared.fault.CheckFault.{CheckFault}
 use Rattle.pm_check.specs.declared.fault.CheckFault.TheVariants.{Syntax, Refused, NoLine, Unguarded, Deep, Long, Read, Memory}
+use Rattle.pm_check.specs.Lines.{failed_rule}
 use Rattle.pm_top.specs.declared.status.Status.{Status}
 use Rattle.pm_top.specs.declared.status.Status.TheVariants as status
 use Rattle.pm_top.specs.Answers.{offence_line, offence_status}
@@ -14,7 +15,7 @@ pub record IsNamed (rule : ℕ) : Type 0 where
 -- a rule that is named has a name
 unfoldable pub NamesRule : CheckFault → Type 0
 NamesRule (Syntax at) = Unit {0}
-NamesRule (Refused n unmet) = IsNamed unmet.rule
+NamesRule (Refused n failed) = IsNamed (failed_rule failed)
 NamesRule (NoLine n cited) = Unit {0}
 NamesRule (Unguarded p) = Unit {0}
 NamesRule (Deep at) = Unit {0}
@@ -25,7 +26,7 @@ NamesRule Memory = Unit {0}
 -- a fault for which a line is written
 unfoldable pub IsTold : CheckFault → Type 0
 IsTold (Syntax at) = Unit {0}
-IsTold (Refused n unmet) = Unit {0}
+IsTold (Refused n failed) = Unit {0}
 IsTold (NoLine n cited) = Unit {0}
 IsTold (Unguarded p) = Unit {0}
 IsTold (Deep at) = Unit {0}

@@ -3,31 +3,16 @@ use Rattle.std.specs.Prelude.{ℕ, List, [], ◌∷◌, ◌++◌, codes, Option,
 use Rattle.std.specs.Fmt.{decimal}
 use Rattle.pm_terms.specs.declared.fault.TextFault.{TextFault}
 use Rattle.pm_terms.specs.declared.fault.TextFault.TheVariants.{Unexpected, Unbound, Number, Fraction, Arity, Deep, Memory}
-use Rattle.pm_run.specs.declared.row.Row.{Row}
-use Rattle.pm_run.specs.declared.row.Row.TheVariants.{I1, I2, N1, N2, B5, Q1, Q2, Q3, Q4, Q7, Q9, X1, X2, X3, X4, X6, X7}
-use Rattle.pm_run.specs.declared.row.Refusal.{Refusal}
+use Rattle.pm_goal.specs.declared.refusal.Row.{Row}
+use Rattle.pm_goal.specs.declared.refusal.Refusal.{Refusal}
+use Rattle.pm_goal.specs.Refusals.{family, number}
 use Rattle.pm_top.specs.Printed.{line_feed}
 
 -- ---- the line of a refusal
 
+-- a row as it is printed: the letter of its family and its number
 unfoldable pub row_text : Row → List ℕ
-row_text I1 = codes "I1"
-row_text I2 = codes "I2"
-row_text N1 = codes "N1"
-row_text N2 = codes "N2"
-row_text B5 = codes "B5"
-row_text Q1 = codes "Q1"
-row_text Q2 = codes "Q2"
-row_text Q3 = codes "Q3"
-row_text Q4 = codes "Q4"
-row_text Q7 = codes "Q7"
-row_text Q9 = codes "Q9"
-row_text X1 = codes "X1"
-row_text X2 = codes "X2"
-row_text X3 = codes "X3"
-row_text X4 = codes "X4"
-row_text X6 = codes "X6"
-row_text X7 = codes "X7"
+row_text row = family row ∷ decimal (number row)
 
 -- a name behind its blank
 abbrev pub name_text : Option (List ℕ) → List ℕ

@@ -1,17 +1,18 @@
 //! The answer to an input.
 
 ghost use Rattle.std.specs.Prelude.{◌≡◌, ◌≤◌, length, IfOk};
+ghost use Rattle.pm_check.specs.Lines.{failed_rule};
 ghost use Rattle.pm_run.specs.Coming.{limit};
 ghost use Rattle.pm_top.specs.Answers.{offence_line, Runs};
 ghost use Rattle.pm_top.specs.Offences.{IsNamed, NamesRule, Tells};
 ghost use Rattle.pm_top.specs.RunTexts.{row_text, name_text, refusal_line, fault_line};
 
 use crate::status::Status;
-use pm_check::CheckFault;
+use pm_check::{CheckFault, Failed};
 use pm_dtext::rule_name;
+use pm_goal::{Refusal, Row};
 use pm_logic::{Bytes, Memory, Name};
-use pm_rules::Unmet;
-use pm_run::{Ran, Refusal, Row, run_script};
+use pm_run::{Ran, run_script};
 use pm_terms::TextFault;
 use std::alloc::Global;
 
@@ -20,12 +21,12 @@ const MOST: u64 = 1 << 63;
 
 /// The line of a proof line or statement that doesn't follow.
 #[tactic(auto, using(crate::proofs::Offences::named), unfolding(crate::specs::Answers::offence_line))]
-fn refused(alloc: Global, line: u64, unmet: Unmet) -> Result<Bytes, Memory>
-    requires { IsNamed unmet.rule }
-    ensures { IfOk result (λ text. text ≡ offence_line (CheckFault.Refused line unmet)) }
+fn refused(alloc: Global, line: u64, failed: Failed) -> Result<Bytes, Memory>
+    requires { IsNamed (failed_rule failed) }
+    ensures { IfOk result (λ text. text ≡ offence_line (CheckFault.Refused line failed)) }
 {
-    let name = rule_name(unmet.rule);
-    let condition = unmet.condition;
+    let name = rule_name(failed.rule());
+    let condition = failed.condition();
     let text = format!(in alloc; "refused: line {line}: {name} condition {condition}\n")?;
     Bytes::from_slice(alloc, text.as_bytes())
 }
@@ -39,7 +40,7 @@ fn fault_line(alloc: Global, fault: CheckFault) -> Result<Bytes, Memory>
     let text = match fault {
         CheckFault::Syntax(at) => format!(in alloc; "unreadable at {at}: syntax\n")?,
         CheckFault::Deep(at) => format!(in alloc; "unreadable at {at}: deep\n")?,
-        CheckFault::Refused { line, unmet } => return refused(alloc, line, unmet),
+        CheckFault::Refused { line, failed } => return refused(alloc, line, failed),
         CheckFault::NoLine { line, cited } => {
             format!(in alloc; "refused: line {line} cites {cited}\n")?
         }
@@ -88,29 +89,17 @@ fn unreadable(alloc: Global, fault: TextFault) -> Result<Bytes, Memory>
     Bytes::from_slice(alloc, text.as_bytes())
 }
 
+/// A row as it is printed: the letter of its family and its number.
 #[tactic(auto, unfolding(crate::specs::RunTexts::row_text))]
-fn row_text(row: Row) -> &'static str
-    ensures { result.now ≡ row_text row }
+fn row_text(alloc: Global, row: Row) -> Result<Bytes, Memory>
+    ensures { IfOk result (λ text. text ≡ row_text row) }
 {
-    match row {
-        Row::I1 => "I1",
-        Row::I2 => "I2",
-        Row::N1 => "N1",
-        Row::N2 => "N2",
-        Row::B5 => "B5",
-        Row::Q1 => "Q1",
-        Row::Q2 => "Q2",
-        Row::Q3 => "Q3",
-        Row::Q4 => "Q4",
-        Row::Q7 => "Q7",
-        Row::Q9 => "Q9",
-        Row::X1 => "X1",
-        Row::X2 => "X2",
-        Row::X3 => "X3",
-        Row::X4 => "X4",
-        Row::X6 => "X6",
-        Row::X7 => "X7",
-    }
+    let number = row.number();
+    let digits = format!(in alloc; "{number}")?;
+    let mut text = Bytes::new(alloc);
+    text.push(row.family())?;
+    text.extend(digits.as_bytes())?;
+    Ok(text)
 }
 
 /// A name behind its blank, if there is one.
@@ -131,9 +120,10 @@ fn refusal(alloc: Global, number: u64, offset: u64, refusal: &Refusal) -> Result
     ensures { IfOk result (λ text. text ≡ refusal_line number offset refusal.now) }
 {
     let place = format!(in alloc; "refused: sentence {number} at {offset}: ")?;
+    let row = row_text(alloc, refusal.row)?;
     let name = name_text(alloc, &refusal.name)?;
     let mut line = Bytes::from_slice(alloc, place.as_bytes())?;
-    line.extend(row_text(refusal.row).as_bytes())?;
+    line.extend(row.as_slice())?;
     line.extend(name.as_slice())?;
     line.extend(b"\n")?;
     Ok(line)

@@ -1,4 +1,7 @@
 //! The commands, by the words of the command line.
+//!
+//! To add a command: a variant and its words here and in `command_of` of specs/Answers, its row of `Answers` there, what it
+//! answers in answer.rt, its part of `top` in program.rt, and its page in docs/COMMANDS.md. `rt check` here, then `rt ci`.
 
 ghost use Rattle.std.specs.Prelude.{◌≡◌};
 ghost use Rattle.pm_top.specs.Answers.{command_of};

@@ -15,6 +15,7 @@ use crate::printed::accepted;
 use crate::status::Status;
 use pm_check::check;
 use pm_io::{SendFault, Sink, Source, TakeFault, read_all, write_all};
+use pm_logic::MAX_SCRIPT;
 use std::alloc::Global;
 
 /// Writes the text of an answer.
@@ -60,7 +61,7 @@ fn run_command<S: Source, K: Sink>(alloc: Global, source: &mut S, sink: &mut K) 
     ensures read { Faulted (result ≡ Status.ReadFault) (S.faults source.old) (S.faults source.new) }
     ensures write { Faulted (result ≡ Status.WriteFault) (K.faults sink.old) (K.faults sink.new) }
 {
-    let bytes = match read_all(alloc, source, 16_777_216) {
+    let bytes = match read_all(alloc, source, MAX_SCRIPT) {
         Ok(bytes) => bytes,
         Err(TakeFault::Read) => return Status::ReadFault,
         Err(TakeFault::Long) => return say(sink, Status::TooLong, b"too long\n"),

@@ -1,13 +1,15 @@
-use Rattle.std.proofs.Common.{◌≡◌, ◌↔◌, Some, rules}
-use Rattle.std.specs.Prelude.{IsTrue}
-use Rattle.pm_run.specs.Steps.{sides_of, introduced, IsBlocked, is_taken}
-use Rattle.pm_run.proofs.Steppings.{intro_is}
+use Rattle.std.proofs.Common.{◌≡◌, Some, None, sym, subst, rules}
+use Rattle.pm_run.specs.Steps.{sides_of, introduced, intro_rows}
+use Rattle.pm_run.proofs.Steppings.{intro_refused, intro_moves, new_here}
 use Rattle.pm_run.proofs.goals.intro.Goals as goal
+
+pub returns-in-Some-intro_row : goal.returns-in-Some-intro_row
+returns-in-Some-intro_row c =
+    let split : sides_of c.args.goal.concl ≡ Some (c.in-Some.implies, c.in-Some.a.now, c.in-Some.b.now) = search rules in
+    intro_refused c.args.goal c.args.name.now c.in-Some.implies c.in-Some.a.now c.in-Some.b.now c.in-Some-intro_row.row split c.in-Some-intro_row.ensures
 
 pub returns : goal.returns
 returns c =
     let split : sides_of c.args.goal.concl ≡ Some (c.in-Some.implies, c.in-Some.a.now, c.in-Some.b.now) = search rules in
-    let block : IsTrue c.is_blocked-blocked.result ↔ IsBlocked c.in-Some.implies c.in-Some.a.now c.args.goal.spats = search rules in
-    let used : c.is_taken-taken.result ≡ is_taken c.args.goal c.args.name.now = search rules in
     let is : c.in_ok-new.new ≡ introduced c.args.goal c.args.name.now c.in-Some.a.now c.in-Some.b.now = search rules in
-    intro_is c.args.goal c.args.name.now c.tested.result c.in-Some.implies c.is_blocked-blocked.result c.is_taken-taken.result c.in-Some.a.now c.in-Some.b.now c.in_ok-new.new c.requires.spatial split block used is c.tested.ensures
+    intro_moves c.args.goal c.args.name.now c.in-Some.implies c.in-Some.a.now c.in-Some.b.now c.in_ok-new.new c.requires.spatial split is c.in_default-intro_row.ensures

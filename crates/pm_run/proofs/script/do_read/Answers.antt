@@ -5,4 +5,4 @@ use Rattle.pm_run.proofs.Looped.{done_span}
 use Rattle.pm_run.proofs.script.do_read.Goals as goal
 
 pub returns : goal.returns
-returns c = subst (λ (at : Option Stop). AtSpan c.args.running.now c.args.number c.args.span.now c.sentence.new.self at) (sym c.stop_at.ensures) (done_span c.args.running.now c.args.number c.args.span.now c.args.sentence.now c.sentence.new.self c.in_ok-done.done c.requires.read c.in_ok-done.ensures)
+returns c = subst (λ (at : Option Stop). AtSpan c.args.running.now c.args.number c.args.span.now c.sentence.new.self at) (sym c.stop_at.ensures) (done_span c.args.running.now c.args.number c.args.span.now c.args.sentence c.sentence.new.self c.in_ok-done.done c.requires.read c.in_ok-done.ensures)

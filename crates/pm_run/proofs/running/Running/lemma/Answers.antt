@@ -1,22 +1,14 @@
 use Rattle.std.proofs.Common.{◌≡◌, Some, ◌∙◌, subst, rules}
-use Rattle.std.specs.Prelude.{IfOk}
-use Rattle.pm_run.specs.declared.running.Done.TheVariants as done
-use Rattle.pm_run.specs.Rows.{refusal}
 use Rattle.pm_run.specs.Runs.{lemma_rows, opened, opening}
-use Rattle.pm_run.specs.Keeping.{Opens}
-use Rattle.pm_run.proofs.Doings.{on_ok, refused_is, open_same, lemma_opened}
+use Rattle.pm_run.proofs.Doings.{refused_is, open_same, lemma_opened}
 use Rattle.pm_run.proofs.running.Running.lemma.Goals as goal
 
 pub returns-in-Some : goal.returns-in-Some
-returns-in-Some c =
+returns-in-Some c = λ s k sayable.
     let goals : c.in_ok-goal.goal ≡ opening c.args.statement = search rules in
     let is : c.lemma_row.result ≡ Some c.in-Some.row = search rules in
-    let refused : IfOk c.refused.result (λ d. d ≡ done.Refused (refusal c.in-Some.row c.args.name)) = search rules in
-    on_ok (λ d. d ≡ done.Refused (refusal c.in-Some.row c.args.name)) (Opens c.args.self.now c.args.name c.args.statement c.args.self.now) c.refused.result
-    (λ d e. λ s k sayable.
     let rows = c.lemma_row.ensures s c.args.name c.args.statement goals (open_same c.args.self.now.proof s.proof k.proof_is) (c.is_used-used.ensures ∙ k.names_are c.args.name) k.lemmas_are in
-    refused_is c.args.name (lemma_rows s c.args.name c.args.statement) (opened s c.args.name c.args.statement) c.args.self.now d c.in-Some.row e (subst (lemma_rows s c.args.name c.args.statement) is rows))
-    refused
+    refused_is c.args.name (lemma_rows s c.args.name c.args.statement) (opened s c.args.name c.args.statement) c.args.self.now c.refused.result c.in-Some.row c.refused.ensures (subst (lemma_rows s c.args.name c.args.statement) is rows)
 
 pub returns-in-None : goal.returns-in-None
 returns-in-None c = λ s k sayable.

@@ -1,0 +1,4 @@
+mod Counts
+mod Cutting
+pub mod Copies
+pub mod Fills

@@ -1,0 +1,6 @@
+pub mod Trees
+pub mod Nodes
+pub mod Cuts
+pub mod Parts
+pub mod Valid
+pub mod Known

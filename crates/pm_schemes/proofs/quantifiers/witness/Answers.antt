@@ -1,0 +1,12 @@
+use Rattle.std.proofs.Common.{rules, ◌≡◌}
+use Rattle.pm_logic.specs.declared.formula.Formula.TheViews as view
+use Rattle.pm_logic.specs.Substitution.{opened_of}
+use Rattle.pm_schemes.proofs.Binders.{witnessed}
+use Rattle.pm_schemes.proofs.quantifiers.witness.Goals as goal
+
+pub returns : goal.returns
+returns c =
+    let left : c.in_ok-left.left ≡ opened_of c.args.b.now c.args.t.now = search rules in
+    let right : c.in_ok-right.right ≡ view.Ex c.args.b.now = search rules in
+    let term : c.in_ok-t.t ≡ c.args.t.now = search rules in
+    witnessed c.args.vars c.args.b.now c.in_ok-left.left c.in_ok-right.right c.args.t.now c.in_ok-t.t c.in_ok-proof.proof term left right c.in_ok-proof.ensures.tree

@@ -1,0 +1,5 @@
+pub mod Leveling
+pub mod Walking
+pub mod Moving
+pub mod Pushes
+pub mod Contexts

@@ -1,0 +1,10 @@
+use Rattle.std.proofs.Common.{◌-◌}
+use Rattle.pm_goal.specs.Left.{of_kind}
+use Rattle.pm_star.proofs.Pushes.{IsPushed}
+use Rattle.pm_star.proofs.collecting.push_hyps.Given as goal
+
+abbrev pub invariant-loop-next : goal.invariant-loop-next
+invariant-loop-next l = IsPushed (λ h. of_kind l.kind h.formula) l.list l.next l.initial.out l.out
+
+abbrev pub decreases-loop-next : goal.decreases-loop-next
+decreases-loop-next l = l.len - l.next

@@ -1,0 +1,7 @@
+use Rattle.std.proofs.Common.{refl}
+use Rattle.pm_star.proofs.Moving.{front_done, behind_slice}
+use Rattle.pm_star.proofs.moves.to_front.Goals as goal
+
+pub returns : goal.returns
+returns c =
+    front_done c.args.vars c.args.parts.now _ c.args.place c.index-parts-place.result c.in_ok-rest.rest c.in_ok-left.left c.in_ok-proof.proof c.in_ok-proof-2.proof c.requires c.index-parts-place.is (behind_slice c.args.parts.now c.args.place c.in_ok-rest.rest c.in_ok-rest.ensures) refl c.in_ok-left.ensures c.in_ok-proof.ensures c.in_ok-proof-2.ensures

@@ -1,0 +1,9 @@
+pub mod Spelled
+pub mod Arguments
+pub mod Tables
+pub mod Wording
+pub mod Growing
+pub mod Fitting
+pub mod Placing
+pub mod Looping
+pub mod Stating
