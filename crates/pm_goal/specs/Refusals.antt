@@ -44,7 +44,8 @@ Q = 81
 abbrev X : ℕ
 X = 88
 
--- the letter of the family, the number in it, and whether a refusal by the row names the thing in question
+-- the letter of the family, the number in it, and whether a refusal by the row names the thing in question, where that
+-- was written as a name: `$` and groups have none
 abbrev pub entry : Row → ℕ × ℕ × Bool
 entry NoSuchHypothesis = (N, 1, true)
 entry NameInUse = (N, 2, true)

@@ -65,7 +65,7 @@ pub enum Row {
     ConclusionNotExistential,
     /// The hypothesis isn't the conclusion.
     NotTheConclusion,
-    /// No hypothesis is the conclusion.
+    /// No hypothesis or fact proves the conclusion by itself.
     NoAssumption,
     /// `done` doesn't close the goal.
     NotDone,
@@ -179,7 +179,7 @@ impl From<Memory> for StepFault {
 
 impl Row {
     /// The table of rows: the letter of the family and the number in it, by which the row is printed, and whether a refusal
-    /// names the thing in question.
+    /// names the thing in question, where that was written as a name.
     fn entry(self) -> (u8, u8, bool)
         ensures { result ≡ entry self }
     {
@@ -263,7 +263,7 @@ impl Row {
         self.entry().1
     }
 
-    /// Whether a refusal by the row names the thing in question.
+    /// Whether a refusal by the row names the thing in question. What has no name, as the pattern `$` or a group, isn't named.
     pub fn gives_name(self) -> bool
         ensures { result ≡ gives_name self }
     {

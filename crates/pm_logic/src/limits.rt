@@ -1,4 +1,5 @@
 //! What scripts, goals and lines of text may have at most. Code, definitions and documents take these numbers from here.
+//! Bounds of numbers themselves (integers, coefficients, units) stand with what they bound.
 
 /// Variables of a goal, and parameters of a predicate.
 pub const MAX_VARIABLES: usize = 64;

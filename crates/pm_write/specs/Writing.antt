@@ -89,10 +89,6 @@ pub record IsConcluded (earlier : List Earlier) (e : Entail) (number : ℕ) : Ty
   pub entail_is : item.entail.now ≡ e
   pub number_is : item.number ≡ number
 
--- none of them is e
-abbrev pub IsNone : List Earlier → Entail → Type 0
-IsNone earlier e = AllByRecursion (λ k. ¬ (k.entail.now ≡ e)) earlier
-
 -- ---- what is asked of a part of a proof
 
 -- its rule, where it has one, leads from its premises to its conclusion, and fits a line
