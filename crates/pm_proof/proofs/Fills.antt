@@ -1,14 +1,16 @@
 -- What is known of a proof with a hole filled.
 use Rattle.std.proofs.Common.{ℕ, zero, suc, ◌+◌, ◌-◌, ◌≡◌, ◌≤◌, ◌<◌, inl, inr, max, sym, ap, refl, ◌∙◌, arith, List, [], ◌∷◌, ◌++◌, length, slice_get, Option, Some, None}
 use Rattle.std.proofs.lemmas.List.{append-nil}
+use Rattle.std.specs.List.{AllByRecursion}
 use Rattle.pm_logic.specs.declared.formula.Preds.{Preds}
 use Rattle.pm_rules.specs.declared.rules.Entail.{Entail}
 use Rattle.pm_rules.specs.declared.rules.Rule.{Rule}
 use Rattle.pm_rules.specs.Rules.{RuleOk, premises}
 use Rattle.pm_proof.specs.Trees.{Tree, Hole, Axiom, First, Second, Both, node, conclusion, conclusion_of, holes_of, hole_count, rules, depth, variables, filled, splice}
-use Rattle.pm_proof.specs.Valid.{Throughout, Valid, ValidWhere}
-use Rattle.pm_proof.specs.Known.{Tables, Proves, Extends, FillProves, FillExtends}
+use Rattle.pm_proof.specs.Valid.{Throughout, Valid, ValidWhere, EntailScoped, ArgumentsFit, IsScoped}
+use Rattle.pm_proof.specs.Known.{Tables, ScopedWhere, Proves, Extends, FillProves, FillExtends}
 use Rattle.pm_proof.proofs.Counts.{side, counted, get_left, get_right, get_within, splice_left, splice_right}
+use Rattle.pm_proof.proofs.Scoping.{scoped_root}
 
 same_item : (a b : Entail) → Some a ≡ Some b → a ≡ b
 same_item a b e = cc
@@ -83,17 +85,44 @@ fills_throughout H R (Both r e a b) i x h v w = elim (side i (hole_count a)) [
 pub fills_valid : (preds : Preds) (t : Tree) (i : ℕ) (x : Tree) → slice_get (holes_of t) i ≡ Some (conclusion x) → Valid preds t → Valid preds x → Valid preds (filled t i x)
 fills_valid preds t i x h v w = fills_throughout (λ e. Unit {0}) (RuleOk preds) t i x h v w
 
+pub fills_scoped : (preds : Preds) (t : Tree) (i : ℕ) (x : Tree) → slice_get (holes_of t) i ≡ Some (conclusion x) → IsScoped preds t → IsScoped preds x → IsScoped preds (filled t i x)
+fills_scoped preds t i x h v w = fills_throughout (EntailScoped preds) (λ r ps e. EntailScoped preds e × ArgumentsFit preds e.vars r) t i x h v w
+
+-- what holds of each of two lists
+pub all_both : (P : Entail → Type 0) (xs ys : List Entail) → AllByRecursion P xs → AllByRecursion P ys → AllByRecursion P (xs ++ ys)
+all_both P [] ys a b = b
+all_both P (x ∷ xs) ys a b = (a.0, all_both P xs ys a.1 b)
+
+pub all_parts : (P : Entail → Type 0) (xs ys : List Entail) → AllByRecursion P (xs ++ ys) → AllByRecursion P xs × AllByRecursion P ys
+all_parts P [] ys a = (tt, a)
+all_parts P (x ∷ xs) ys a = let r = all_parts P xs ys a.1 in ((a.0, r.0), r.1)
+
+-- what holds of each item of a list with others in place of one holds of the others, and of the list where it holds of that one
+pub splice_all : (P : Entail → Type 0) (xs : List Entail) (i : ℕ) (x : Entail) (zs : List Entail) → slice_get xs i ≡ Some x → P x → AllByRecursion P (splice xs i zs) → AllByRecursion P xs
+splice_all P [] i x zs h p a = tt
+splice_all P (y ∷ xs) zero x zs h p a = (rw (same_item y x h) p, (all_parts P zs xs a).1)
+splice_all P (y ∷ xs) (suc i) x zs h p a = (a.0, splice_all P xs i x zs h p a.1)
+
+pub splice_inner : (P : Entail → Type 0) (xs : List Entail) (i : ℕ) (x : Entail) (zs : List Entail) → slice_get xs i ≡ Some x → AllByRecursion P (splice xs i zs) → AllByRecursion P zs
+splice_inner P [] i x zs h a = absurd (cc)
+splice_inner P (y ∷ xs) zero x zs h a = (all_parts P zs xs a).0
+splice_inner P (y ∷ xs) (suc i) x zs h a = splice_inner P xs i x zs h a.1
+
 -- hole i is one of the tree's
 pub hole_within : (t : Tree) (i : ℕ) (e : Entail) → slice_get (holes_of t) i ≡ Some e → i < hole_count t
 hole_within t i e h = omega (arith, get_within (holes_of t) i e h, counted t)
 
 pub fill_proves : (t : Tree) (i : ℕ) (x y : Tree) → y ≡ filled t i x → slice_get (holes_of t) i ≡ Some (conclusion x) → FillProves t i x y
-fill_proves t i x y is get on e hs gs n m d k p q =
+fill_proves t i x y is get on e hs gs n m d k p q wants =
     let f = fills t i x get in
+    let at : slice_get hs i ≡ Some (conclusion x) = rw p.holes at get in
     rw is (record {
       concludes = f.concludes ∙ p.concludes;
       holes = f.holes ∙ rw (p.holes, q.holes) refl;
       valid = λ preds among. fills_valid preds t i x get (p.valid preds among) (q.valid preds among);
+      scoped = λ preds s all.
+          let c = wants preds s all in
+          fills_scoped preds t i x get (p.scoped preds s (splice_all (EntailScoped preds) hs i (conclusion x) gs at c all)) (q.scoped preds c (splice_inner (EntailScoped preds) hs i (conclusion x) gs at all));
       size = omega (arith, f.size, p.size, q.size);
       shallow = omega (arith, f.shallow, p.shallow, q.shallow);
       narrow = omega (arith, f.narrow, p.narrow, q.narrow);
@@ -112,6 +141,7 @@ fill_extends t i x y is get e n d k p =
       concludes = f.concludes ∙ p.concludes;
       holes = f.holes ∙ rw (p.holes, first) (append-nil (holes_of x));
       valid = λ preds v. fills_valid preds t i x get (p.valid preds tt) v;
+      scoped = λ preds s v. fills_scoped preds t i x get (p.scoped preds s (scoped_root preds x v, tt)) v;
       size = omega (arith, f.size, p.size);
       shallow = omega (arith, f.shallow, p.shallow);
       narrow = omega (arith, f.narrow, p.narrow);
@@ -131,6 +161,7 @@ weaker on e hs n d k n1 d1 k1 t hn hd hk p = record {
   concludes = p.concludes;
   holes = p.holes;
   valid = p.valid;
+  scoped = p.scoped;
   size = omega (arith, p.size);
   shallow = omega (arith, p.shallow);
   narrow = omega (arith, p.narrow);
@@ -141,26 +172,29 @@ extends_weaker by t e n d k n1 d1 k1 hn hd hk p = record {
   concludes = p.concludes;
   holes = p.holes;
   valid = p.valid;
+  scoped = p.scoped;
   size = omega (arith, p.size);
   shallow = omega (arith, p.shallow);
   narrow = omega (arith, p.narrow);
 }
 
-pub extends_more : (by t u : Tree) (e f : Entail) (n m d k : ℕ) → Extends by e n d k t → Extends t f m d k u → Extends by f (n + m) d k u
-extends_more by t u e f n m d k p q = record {
+pub extends_more : (by t u : Tree) (e f : Entail) (n m d k : ℕ) → Extends by e n d k t → Extends t f m d k u → ScopedWhere f (conclusion by ∷ []) e → Extends by f (n + m) d k u
+extends_more by t u e f n m d k p q wants = record {
   concludes = q.concludes;
   holes = q.holes ∙ p.holes;
   valid = λ preds v. q.valid preds (p.valid preds v);
+  scoped = λ preds s v. q.scoped preds s (p.scoped preds (wants preds s (scoped_root preds by v, tt)) v);
   size = omega (arith, p.size, q.size);
   shallow = omega (arith, p.shallow, q.shallow);
   narrow = omega (arith, p.narrow, q.narrow);
 }
 
-pub extends_proves : (on : Tables) (by t : Tree) (h e : Entail) (hs : List Entail) (n m d k : ℕ) → Proves on h hs n d k by → Extends by e m d k t → Proves on e hs (n + m) d k t
-extends_proves on by t h e hs n m d k p q = record {
+pub extends_proves : (on : Tables) (by t : Tree) (h e : Entail) (hs : List Entail) (n m d k : ℕ) → Proves on h hs n d k by → Extends by e m d k t → ScopedWhere e hs h → Proves on e hs (n + m) d k t
+extends_proves on by t h e hs n m d k p q wants = record {
   concludes = q.concludes;
   holes = q.holes ∙ p.holes;
   valid = λ preds among. q.valid preds (p.valid preds among);
+  scoped = λ preds s all. q.scoped preds s (p.scoped preds (wants preds s all) all);
   size = omega (arith, p.size, q.size);
   shallow = omega (arith, p.shallow, q.shallow);
   narrow = omega (arith, p.narrow, q.narrow);

@@ -1,4 +1,6 @@
 mod Counts
 mod Cutting
 pub mod Copies
+pub mod Scoping
 pub mod Fills
+pub mod Joins

@@ -4,3 +4,4 @@ pub mod Cuts
 pub mod Parts
 pub mod Valid
 pub mod Known
+pub mod Joins

@@ -58,6 +58,14 @@ pub record RuleFits (preds : Preds) (r : Rule) (e : Entail) : Type 0 where
   pub arguments : ArgumentsFit preds e.vars r
   pub entail : EntailFits preds e
 
+-- both sides name only variables of the entailment, and predicates of the table with as many arguments as they take
+abbrev pub EntailScoped : Preds → Entail → Type 0
+EntailScoped preds e = Scoped preds e.vars e.left × Scoped preds e.vars e.right
+
+-- each entailment of the tree is scoped; arguments of rules, of which the depth of the tree says nothing, fit
+abbrev pub IsScoped : Preds → Tree → Type 0
+IsScoped preds t = Throughout (EntailScoped preds) (λ r ps e. EntailScoped preds e × ArgumentsFit preds e.vars r) t
+
 -- each entailment and each argument fits
 abbrev pub Fits : Preds → Tree → Type 0
 Fits preds t = Throughout (EntailFits preds) (λ r ps e. RuleFits preds r e) t

@@ -11,6 +11,7 @@ use Rattle.pm_rules.specs.Rules.{RuleOk}
 use Rattle.pm_rules.specs.Rows.{HasArguments, HasBracket}
 use Rattle.pm_rules.specs.Equations.{IsFold}
 use Rattle.pm_proof.specs.Trees.{Tree, Axiom, entail, side_depth}
+use Rattle.pm_proof.specs.Valid.{ArgumentsFit}
 use Rattle.pm_proof.specs.Known.{From, IsAmong, Proves}
 use Rattle.pm_schemes.proofs.Leaves.{leaf}
 
@@ -35,11 +36,13 @@ unfolding HasArguments HasBracket
 fold_ok base preds k p args there among = record { premises = refl; variables = tt; arguments = tt; shape = folds base preds p args there among; bracket = tt }
 
 pub folded : (k : ℕ) (base : Preds) (p : ℕ) (args : List Term) (t : Tree) → p < length base.list → t ≡ Axiom Fold (entail k (subst_of (body_of base.list p) args) (Call p args)) → Proves (From base) (entail k (subst_of (body_of base.list p) args) (Call p args)) [] 1 (side_depth (entail k (subst_of (body_of base.list p) args) (Call p args))) k t
-folded k base p args t there is = leaf (From base) Fold (entail k (subst_of (body_of base.list p) args) (Call p args)) t is (λ preds among. fold_ok base preds k p args there among)
+unfolding ArgumentsFit
+folded k base p args t there is = leaf (From base) Fold (entail k (subst_of (body_of base.list p) args) (Call p args)) t is (λ preds among. fold_ok base preds k p args there among) (λ preds s. tt)
 
 unfold_ok : (base preds : Preds) (k p : ℕ) (args : List Term) → p < length base.list → IsAmong (From base) preds → RuleOk preds Unfold [] (entail k (Call p args) (subst_of (body_of base.list p) args))
 unfolding HasArguments HasBracket
 unfold_ok base preds k p args there among = record { premises = refl; variables = tt; arguments = tt; shape = folds base preds p args there among; bracket = tt }
 
 pub unfolded : (k : ℕ) (base : Preds) (p : ℕ) (args : List Term) (t : Tree) → p < length base.list → t ≡ Axiom Unfold (entail k (Call p args) (subst_of (body_of base.list p) args)) → Proves (From base) (entail k (Call p args) (subst_of (body_of base.list p) args)) [] 1 (side_depth (entail k (Call p args) (subst_of (body_of base.list p) args))) k t
-unfolded k base p args t there is = leaf (From base) Unfold (entail k (Call p args) (subst_of (body_of base.list p) args)) t is (λ preds among. unfold_ok base preds k p args there among)
+unfolding ArgumentsFit
+unfolded k base p args t there is = leaf (From base) Unfold (entail k (Call p args) (subst_of (body_of base.list p) args)) t is (λ preds among. unfold_ok base preds k p args there among) (λ preds s. tt)

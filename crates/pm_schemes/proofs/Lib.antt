@@ -1,5 +1,8 @@
 mod Shifts
+pub mod Scopes
 mod Fitting
+mod Rooms
+mod Templates
 pub mod Leaves
 mod Binders
 mod Heaps

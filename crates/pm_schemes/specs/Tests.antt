@@ -1,5 +1,5 @@
--- The test that each step of a derivation over letters fits its rule.
-use Rattle.std.specs.Prelude.{ℕ, ◌==◌, Bool, true, false, ◌&&◌, cond, List, [], ◌∷◌, ◌++◌, slice_index_or}
+-- The test that each step of a derivation over letters fits its rule, and that no letter comes in besides.
+use Rattle.std.specs.Prelude.{ℕ, suc, ◌==◌, Bool, true, false, ◌&&◌, ◌||◌, cond, List, [], ◌∷◌, ◌++◌, slice_index_or}
 use Rattle.pm_rules.specs.declared.rules.Rule.{Rule}
 use Rattle.pm_rules.specs.declared.rules.Rule.TheVariants.{Inst, AllE, ExI, Linear, Rewrite, Timeless}
 use Rattle.pm_rules.specs.declared.pattern.Unary.{Unary}
@@ -11,7 +11,7 @@ use Rattle.pm_rules.specs.PureShapes.{PureShape}
 use Rattle.pm_rules.specs.Shapes as shape
 use Rattle.pm_rules.specs.Shapes.{Shape, Sequent}
 use Rattle.pm_rules.specs.Rows.{Row, Shapes, Computed, row}
-use Rattle.pm_schemes.specs.Sketches.{Sketch, Gap, Axiom, One, Two, claim}
+use Rattle.pm_schemes.specs.Sketches.{Sketch, Gap, Axiom, One, Two, claim, gaps}
 
 -- ---- equal shapes
 
@@ -132,8 +132,77 @@ abbrev pub fits : Rule → List Sequent → Sequent → Bool
 fits r gs c = is_bare r && fits_row (row r) gs c
 
 -- and whether each does
+abbrev pub each_fits : Sketch → Bool
+each_fits (Gap c) = true
+each_fits (Axiom r c) = fits r [] c
+each_fits (One r c a) = fits r (claim a ∷ []) c && each_fits a
+each_fits (Two r c a b) = fits r (claim a ∷ claim b ∷ []) c && each_fits a && each_fits b
+
+-- ---- whether the steps speak of nothing that stands neither in what is derived nor in a gap
+
+-- a letter, shifted or not, or one of the pure ones, that stands under so many binders
+pub data Use : Type 0 where
+  Plain : ℕ → ℕ → Use
+  Shifted : ℕ → ℕ → Use
+  Pure : ℕ → ℕ → Use
+
+abbrev pub same_use : Use → Use → Bool
+same_use (Plain d i) (Plain e j) = d == e && i == j
+same_use (Shifted d i) (Shifted e j) = d == e && i == j
+same_use (Pure d i) (Pure e j) = d == e && i == j
+same_use _ _ = false
+
+-- the binders over what stands under the sign, where so many are over the sign
+abbrev pub below : Unary → ℕ → ℕ
+below o.All d = suc d
+below o.Ex d = suc d
+below o.Later d = d
+below o.Pers d = d
+below o.Upd d = d
+
+abbrev pub pure_uses : ℕ → PureShape → List Use
+pure_uses d (pure.Letter i) = Pure d i ∷ []
+pure_uses d pure.True = []
+pure_uses d pure.False = []
+pure_uses d (pure.And a b) = pure_uses d a ++ pure_uses d b
+pure_uses d (pure.Or a b) = pure_uses d a ++ pure_uses d b
+pure_uses d (pure.Not a) = pure_uses d a
+
+-- the letters of the shape, which stands under d binders itself
+abbrev pub uses : ℕ → Shape → List Use
+uses d (shape.Letter i) = Plain d i ∷ []
+uses d (shape.Shifted i) = Shifted d i ∷ []
+uses d (shape.Pure a) = pure_uses d a
+uses d (shape.One u a) = uses (below u d) a
+uses d (shape.Two u a b) = uses d a ++ uses d b
+
+abbrev pub sides_uses : Sequent → List Use
+sides_uses c = uses 0 c.left ++ uses 0 c.right
+
+abbrev pub uses_of_all : List Sequent → List Use
+uses_of_all [] = []
+uses_of_all (c ∷ cs) = sides_uses c ++ uses_of_all cs
+
+-- the letters of the steps
+abbrev pub uses_in : Sketch → List Use
+uses_in (Gap c) = []
+uses_in (Axiom r c) = sides_uses c
+uses_in (One r c a) = sides_uses c ++ uses_in a
+uses_in (Two r c a b) = sides_uses c ++ uses_in a ++ uses_in b
+
+-- those of what is derived, and of the gaps
+abbrev pub uses_stated : Sketch → List Use
+uses_stated x = sides_uses (claim x) ++ uses_of_all (gaps x)
+
+abbrev pub is_among : Use → List Use → Bool
+is_among u [] = false
+is_among u (v ∷ vs) = same_use u v || is_among u vs
+
+abbrev pub are_among : List Use → List Use → Bool
+are_among [] vs = true
+are_among (u ∷ us) vs = is_among u vs && are_among us vs
+
+-- ---- whether each step fits its rule, and each of its letters stands in what is derived or in a gap
+
 unfoldable pub passes : Sketch → Bool
-passes (Gap c) = true
-passes (Axiom r c) = fits r [] c
-passes (One r c a) = fits r (claim a ∷ []) c && passes a
-passes (Two r c a b) = fits r (claim a ∷ claim b ∷ []) c && passes a && passes b
+passes x = each_fits x && are_among (uses_in x) (uses_stated x)

@@ -1,12 +1,14 @@
 //! Proofs by the rules of pure facts, and by that of timeless formulas.
 
-ghost use Rattle.std.specs.Prelude.{◌≡◌, [], IfOk};
+ghost use Rattle.std.specs.Prelude.{◌≡◌, ◌≤◌, [], length, IfOk};
 ghost use Rattle.pm_logic.specs.declared.formula.Formula.TheVariants as formula;
 ghost use Rattle.pm_logic.specs.declared.formula.Formula.TheViews as view;
 ghost use Rattle.pm_logic.specs.declared.formula.Pure.TheVariants as pure;
 ghost use Rattle.pm_logic.specs.Bounds.{IsBounded, past_indices};
 ghost use Rattle.pm_logic.specs.Classes.{IsTimeless};
+ghost use Rattle.pm_logic.specs.declared.limits.TheConstants.{MAX_LINE_LEVELS};
 ghost use Rattle.pm_logic.specs.Scope.{TermScoped};
+ghost use Rattle.pm_logic.specs.Size.{depth_of};
 ghost use Rattle.pm_logic.specs.Substitution.{opened_of};
 ghost use Rattle.pm_rules.specs.Equations.{IsFacts};
 ghost use Rattle.pm_rules.specs.Linear.{HasFactors};
@@ -20,8 +22,8 @@ use pm_proof::{Proof, by_rule};
 use pm_rules::{Entail, Rule};
 use std::alloc::Global;
 
-/// `⌜facts⌝ ⊢ ⌜goal⌝`, where the factors of the negated goal and of each fact show it; `second` is empty but for an
-/// equation, which takes a second list of factors.
+/// `⌜facts⌝ ⊢ ⌜goal⌝`, where the factors of the negated goal and of each fact show it, which are at most those of a line of a
+/// derivation; `second` is empty but for an equation, which takes a second list of factors.
 pub fn linear(
     alloc: Global,
     vars: u32,
@@ -31,6 +33,7 @@ pub fn linear(
     goal: &Pure,
 ) -> Result<Proof, Memory>
     requires facts { IsFacts facts.now }
+    requires few { length first ≤ 66 }
     requires shown { HasFactors first second vars (formula.Pure facts.now) (formula.Pure goal.now) }
     ensures { IfOk result (λ p. Proves Every (entail vars (formula.Pure facts.now) (formula.Pure goal.now)) [] 1 (side_depth (entail vars (formula.Pure facts.now) (formula.Pure goal.now))) vars p) }
 {
@@ -60,7 +63,7 @@ pub fn strip_timeless(alloc: Global, vars: u32, p: &Formula) -> Result<Proof, Me
     Ok(proof)
 }
 
-/// `⌜s = t⌝ ∧ B[s] ⊢ B[t]`
+/// `⌜s = t⌝ ∧ B[s] ⊢ B[t]`, where the template B is at most as deep as a line of a derivation has room for
 pub fn rewrite(
     alloc: Global,
     vars: u32,
@@ -69,6 +72,7 @@ pub fn rewrite(
     t: &Term,
 ) -> Result<Proof, Memory>
     requires body { IsBounded template.now }
+    requires levels { depth_of template.now ≤ MAX_LINE_LEVELS }
     requires old { TermScoped past_indices s.now }
     requires new { TermScoped past_indices t.now }
     ensures { IfOk result (λ p. Proves Every (entail vars (view.And (formula.Pure (pure.Eq s.now t.now)) (opened_of template.now s.now)) (opened_of template.now t.now)) [] 1 (side_depth (entail vars (view.And (formula.Pure (pure.Eq s.now t.now)) (opened_of template.now s.now)) (opened_of template.now t.now))) vars p) }

@@ -41,7 +41,8 @@ fn plant(alloc: Global, vars: u32, scheme: &Scheme, letters: Letters) -> Result<
 /// in order. It has as many rules as the scheme, and no formula in it is deeper than the deepest of the letters and the
 /// scheme's height.
 ///
-/// Each step of the scheme fits its rule, which is found by computing where the scheme is a static.
+/// Each step of the scheme fits its rule, and each letter of a step stands also in the scheme's sides or in a gap, under as
+/// many binders; so what the steps say is scoped where these are. Both are found by computing where the scheme is a static.
 ///
 /// The error is want of memory, and then there is no proof.
 #[tactic(auto, using(crate::proofs::Sound::planted_proves))]

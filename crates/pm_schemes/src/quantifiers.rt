@@ -1,13 +1,16 @@
 //! Proofs by the rules of quantifiers, whose formulas are computed.
 
 ghost use Rattle.std.specs.Prelude.{◌≡◌, ◌+◌, ◌<◌, ◌≤◌, [], ◌∷◌, max, length, IfOk};
+ghost use Rattle.std.specs.List.{AllByRecursion};
 ghost use Rattle.pm_logic.specs.declared.formula.Formula.TheViews as view;
 ghost use Rattle.pm_logic.specs.declared.formula.TheConstants.{BOUND};
-ghost use Rattle.pm_logic.specs.Bounds.{IsBounded, past_indices};
-ghost use Rattle.pm_logic.specs.Scope.{ScopedIn, TermScoped, TermsScoped};
+ghost use Rattle.pm_logic.specs.declared.limits.TheConstants.{MAX_LINE_TERMS};
+ghost use Rattle.pm_logic.specs.Bounds.{IsBounded};
+ghost use Rattle.pm_logic.specs.Scope.{ScopedIn};
 ghost use Rattle.pm_logic.specs.Size.{depth_of};
 ghost use Rattle.pm_logic.specs.Substitution.{shift_of, opened_of, subst_of};
 ghost use Rattle.pm_proof.specs.Trees.{entail, side_depth};
+ghost use Rattle.pm_proof.specs.Valid.{TermFits};
 ghost use Rattle.pm_proof.specs.Known.{Proves, Every};
 
 use pm_logic::{Formula, List, Memory, Term, all, copy, copy_term, ex, opened, shift, subst};
@@ -57,10 +60,12 @@ pub fn eliminate(alloc: Global, vars: u32, b: &Formula, q: &Formula) -> Result<P
     by_rule(alloc, Rule::ExE, Some(premise), None, conclusion)
 }
 
-/// `∀ B ⊢ B[t]`
+/// `∀ B ⊢ B[t]`, where a line of a derivation has room for the term
+#[tactic(auto, using(crate::proofs::Rooms::term_past))]
 pub fn specialize(alloc: Global, vars: u32, b: &Formula, t: &Term) -> Result<Proof, Memory>
+    requires vars { vars ≤ BOUND }
     requires body { IsBounded b.now }
-    requires term { TermScoped past_indices t.now }
+    requires term { TermFits vars t.now }
     ensures { IfOk result (λ p. Proves Every (entail vars (view.All b.now) (opened_of b.now t.now)) [] 1 (side_depth (entail vars (view.All b.now) (opened_of b.now t.now))) vars p) }
 {
     let left = all(alloc, copy(alloc, b)?)?;
@@ -71,10 +76,12 @@ pub fn specialize(alloc: Global, vars: u32, b: &Formula, t: &Term) -> Result<Pro
     Ok(proof)
 }
 
-/// `B[t] ⊢ ∃ B`
+/// `B[t] ⊢ ∃ B`, as for `specialize`
+#[tactic(auto, using(crate::proofs::Rooms::term_past))]
 pub fn witness(alloc: Global, vars: u32, b: &Formula, t: &Term) -> Result<Proof, Memory>
+    requires vars { vars ≤ BOUND }
     requires body { IsBounded b.now }
-    requires term { TermScoped past_indices t.now }
+    requires term { TermFits vars t.now }
     ensures { IfOk result (λ p. Proves Every (entail vars (opened_of b.now t.now) (view.Ex b.now)) [] 1 (side_depth (entail vars (opened_of b.now t.now) (view.Ex b.now))) vars p) }
 {
     let left = opened(alloc, b, t)?;
@@ -85,8 +92,9 @@ pub fn witness(alloc: Global, vars: u32, b: &Formula, t: &Term) -> Result<Proof,
     Ok(proof)
 }
 
-/// From `P ⊢ Q` in as many variables as there are terms, which is its hole: `P[σ] ⊢ Q[σ]`.
-#[tactic(auto, using(crate::proofs::Binders::instantiated))]
+/// From `P ⊢ Q` in as many variables as there are terms, which is its hole: `P[σ] ⊢ Q[σ]`. A line of a derivation has room
+/// for the terms.
+#[tactic(auto, using(crate::proofs::Binders::instantiated, crate::proofs::Rooms::terms_past))]
 pub fn instantiate(
     alloc: Global,
     vars: u32,
@@ -98,7 +106,9 @@ pub fn instantiate(
     requires right { ScopedIn (length sigma) premise.right }
     requires left_size { length sigma + depth_of premise.left ≤ BOUND }
     requires right_size { length sigma + depth_of premise.right ≤ BOUND }
-    requires terms { TermsScoped past_indices sigma }
+    requires vars { vars ≤ BOUND }
+    requires few { length sigma ≤ MAX_LINE_TERMS }
+    requires terms { AllByRecursion (TermFits vars) sigma }
     ensures { IfOk result (λ t. Proves Every (entail vars (subst_of premise.left sigma) (subst_of premise.right sigma)) (premise ∷ []) 1 (max (side_depth (entail vars (subst_of premise.left sigma) (subst_of premise.right sigma))) (side_depth premise)) (max vars premise.vars) t) }
 {
     let conclusion = Entail {

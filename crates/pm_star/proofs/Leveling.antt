@@ -1,14 +1,15 @@
 -- One part more, around a proof.
-use Rattle.std.proofs.Common.{◌≡◌, ℕ, suc, ◌+◌, ◌≤◌, inl, inr, max, [], ◌∷◌, refl, sym, ap, subst, ◌∙◌, Some, slice_get, arith}
+use Rattle.std.proofs.Common.{◌≡◌, ℕ, ◌+◌, ◌≤◌, inl, inr, [], ◌∷◌, refl, sym, ap, subst, ◌∙◌, Some, slice_get, arith}
 use Rattle.pm_logic.specs.Size.{depth_of}
 use Rattle.pm_logic.specs.declared.formula.Pure.{Pure}
 use Rattle.pm_logic.specs.declared.formula.Formula.{Formula}
 use Rattle.pm_logic.specs.declared.formula.Formula.TheVariants.{Pure as Assert}
 use Rattle.pm_logic.specs.declared.formula.Formula.TheViews as view
-use Rattle.pm_logic.proofs.Sizes.{depth_pair, depth_modal, depth_pure}
+use Rattle.pm_logic.proofs.Sizes.{depth_pure}
 use Rattle.pm_goal.specs.Left.{star_onto}
 use Rattle.pm_rules.specs.declared.rules.Entail.{Entail}
 use Rattle.pm_proof.specs.Trees.{Tree, entail, conclusion, holes_of}
+use Rattle.pm_proof.specs.Valid.{EntailScoped}
 use Rattle.pm_proof.specs.Known.{Proves, Every, FillProves, FillExtends}
 use Rattle.pm_proof.proofs.Fills.{weaker}
 use Rattle.pm_schemes.specs.Sketches.{deepest}
@@ -17,12 +18,7 @@ use Rattle.pm_star.specs.Levels.{IsShared, IsHalved, IsLevel, Around, left_side,
 use Rattle.pm_star.specs.declared.side.Side.{Side}
 use Rattle.pm_star.specs.declared.side.Side.TheVariants as side
 use Rattle.pm_star.specs.declared.levels.Halves.{Halves}
-
-pub depth_sep : (f g : Formula) → depth_of (view.Sep f g) ≡ suc (max (depth_of f) (depth_of g))
-depth_sep f g = depth_pair (view.Sep f g) f g (inl refl)
-
-pub depth_box : (f : Formula) → depth_of (view.Pers f) ≡ suc (depth_of f)
-depth_box f = depth_modal (view.Pers f) f (inr (inl refl))
+use Rattle.pm_star.proofs.Scoping.{depth_sep, depth_box, scoped_sep, sep_scoped}
 
 -- the only hole, and the first of two
 pub only_hole : (e h : Entail) (n d k : ℕ) (step inner : Tree) → Proves Every e (h ∷ []) n d k step → h ≡ conclusion inner → slice_get (holes_of step) 0 ≡ Some (conclusion inner)
@@ -123,3 +119,4 @@ both_closed k x l p q doubled step out s t f =
     let d : ℕ = deepest (x ∷ l ∷ p ∷ q ∷ []) [] + 3 in
     let s1 = weaker Every h [] 11 (deepest (x ∷ l ∷ []) [] + 3) k 11 d k doubled (omega arith) (omega arith) (omega arith) s in
     f Every (entail k (view.Sep x l) (view.Sep (view.Sep x p) (view.Sep x q))) (h ∷ entail k l (view.Sep p q) ∷ []) [] 15 11 d k t (subst (λ (y : Entail). Proves Every y [] 11 d k doubled) (sym s1.concludes) s1)
+    (λ preds e all. subst (EntailScoped preds) (sym s1.concludes) (e.0, sep_scoped preds k x (view.Sep x l) (scoped_sep preds k x l e.0).0 e.0))

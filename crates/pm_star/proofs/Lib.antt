@@ -1,5 +1,12 @@
+pub mod Scoping
 pub mod Leveling
 pub mod Walking
 pub mod Moving
+pub mod Sunk
+pub mod UnderBox
+pub mod Relocated
+pub mod Pairs
+pub mod Chained
 pub mod Pushes
 pub mod Contexts
+pub mod Places

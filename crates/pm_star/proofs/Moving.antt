@@ -17,7 +17,7 @@ use Rattle.pm_star.specs.Stars.{star, part_at, without, in_front, duplicated, de
 use Rattle.pm_star.specs.Levels.{IsShared, IsHalved, IsDealt, IsBehind, Around, left_side, right_side}
 use Rattle.pm_star.specs.declared.side.Side.TheVariants as side
 use Rattle.pm_star.specs.declared.levels.Halves.{Halves}
-use Rattle.pm_star.proofs.Leveling.{depth_sep}
+use Rattle.pm_star.proofs.Scoping.{Scopes, depth_sep, scoped_sep, sep_scoped, scoped_onto, truth_scoped}
 use Rattle.pm_star.proofs.Walking.{around_more, halved_of}
 
 -- ---- stars of lists
@@ -28,7 +28,7 @@ star_append [] gs end = refl
 star_append (f ∷ fs) gs end = ap (view.Sep f) (star_append fs gs end)
 
 -- before a place, at it, and behind it
-star_parted : (fs : List Formula) (i : ℕ) → i < length fs → star_onto (take i fs) (view.Sep (part_at fs i) (star (drop (suc i) fs))) ≡ star fs
+pub star_parted : (fs : List Formula) (i : ℕ) → i < length fs → star_onto (take i fs) (view.Sep (part_at fs i) (star (drop (suc i) fs))) ≡ star fs
 unfolding star_onto
 star_parted [] i lt = absurd (omega arith)
 star_parted (f ∷ fs) zero lt = refl
@@ -43,17 +43,17 @@ star_set [] i g lt = absurd (omega arith)
 star_set (f ∷ fs) zero g lt = refl
 star_set (f ∷ fs) (suc i) g lt = ap (view.Sep f) (star_set fs i g (omega arith))
 
-star_front : (fs : List Formula) (f : Formula) → view.Sep f (star fs) ≡ star (f ∷ fs)
+pub star_front : (fs : List Formula) (f : Formula) → view.Sep f (star fs) ≡ star (f ∷ fs)
 unfolding star_onto
 star_front fs f = refl
 
 -- a star is no shallower than what it ends in
-onto_deep : (fs : List Formula) (end : Formula) → depth_of end ≤ depth_of (star_onto fs end)
+pub onto_deep : (fs : List Formula) (end : Formula) → depth_of end ≤ depth_of (star_onto fs end)
 unfolding star_onto
 onto_deep [] end = omega arith
 onto_deep (f ∷ fs) end = omega (arith, depth_sep f (star_onto fs end), onto_deep fs end)
 
-taken : (fs : List Formula) (i : ℕ) → i ≤ length fs → length (take i fs) ≡ i
+pub taken : (fs : List Formula) (i : ℕ) → i ≤ length fs → length (take i fs) ≡ i
 taken fs zero le = refl
 taken [] (suc i) le = absurd (omega arith)
 taken (f ∷ fs) (suc i) le = ap suc (taken fs i (omega arith))
@@ -94,15 +94,15 @@ none_shared fs i lt = absurd (omega (arith, lt))
 -- ---- moves
 
 -- around what was built for the place
-moved : (k n m c d : ℕ) (l r l1 r1 : Formula) (base p : Tree) → Proves Every (entail k l r) [] m d k base → Around k n base l1 r1 p → d ≤ room l1 r1 → m + n ≤ 100 * (c + 1) → Moves k c l1 r1 p
-moved k n m c d l r l1 r1 base p b a deep total =
+pub built : (k n m c d : ℕ) (l r l1 r1 : Formula) (base p : Tree) → Scopes k l1 r1 l r → Proves Every (entail k l r) [] m d k base → Around k n base l1 r1 p → d ≤ room l1 r1 → m + n ≤ 100 * (c + 1) → Moves k c l1 r1 p
+built k n m c d l r l1 r1 base p wants b a deep total =
     weaker Every (entail k l1 r1) [] (m + n) (room l1 r1) k (100 * (c + 1)) (room l1 r1) k p total (omega arith) (omega arith)
-    (extends_proves Every base p (entail k l r) (entail k l1 r1) [] m n (room l1 r1) k (weaker Every (entail k l r) [] m d k m (room l1 r1) k base (omega arith) deep (omega arith) b) a)
+    (extends_proves Every base p (entail k l r) (entail k l1 r1) [] m n (room l1 r1) k (weaker Every (entail k l r) [] m d k m (room l1 r1) k base (omega arith) deep (omega arith) b) a (λ preds s all. wants preds s))
 
-base_left : (k n d : ℕ) (l r : Formula) (t : Tree) → Proves Every (entail k l r) [] n d k t → left_side t ≡ l
+pub base_left : (k n d : ℕ) (l r : Formula) (t : Tree) → Proves Every (entail k l r) [] n d k t → left_side t ≡ l
 base_left k n d l r t p = ap (λ (y : Entail). y.left) p.concludes
 
-base_right : (k n d : ℕ) (l r : Formula) (t : Tree) → Proves Every (entail k l r) [] n d k t → right_side t ≡ r
+pub base_right : (k n d : ℕ) (l r : Formula) (t : Tree) → Proves Every (entail k l r) [] n d k t → right_side t ≡ r
 base_right k n d l r t p = ap (λ (y : Entail). y.right) p.concludes
 
 -- the start of a walk past the parts before
@@ -111,10 +111,10 @@ start_halved k n d l p q t p1 q1 b pis qis = halved_of k l (record { proof = t; 
 
 -- ---- the place, as the code has it
 
-at_place : (fs : List Formula) (i : ℕ) (x : Formula) → i < length fs → x ≡ get_or fs i x → x ≡ part_at fs i
+pub at_place : (fs : List Formula) (i : ℕ) (x : Formula) → i < length fs → x ≡ get_or fs i x → x ≡ part_at fs i
 at_place fs i x lt at = at ∙ get_or_default fs i x (Assert pure.True) lt
 
-place_is : (fs before : List Formula) (i : ℕ) (x rest : Formula) → i < length fs → x ≡ part_at fs i → rest ≡ star (drop (suc i) fs) → before ≡ take i fs → star_onto before (view.Sep x rest) ≡ star fs
+pub place_is : (fs before : List Formula) (i : ℕ) (x rest : Formula) → i < length fs → x ≡ part_at fs i → rest ≡ star (drop (suc i) fs) → before ≡ take i fs → star_onto before (view.Sep x rest) ≡ star fs
 place_is fs before i x rest lt at behind ahead =
     ap (λ b. star_onto b (view.Sep x rest)) ahead ∙ ap (λ r. star_onto (take i fs) (view.Sep x r)) behind ∙ ap (λ y. star_onto (take i fs) (view.Sep y (star (drop (suc i) fs)))) at ∙ star_parted fs i lt
 
@@ -127,7 +127,7 @@ behind_slice fs i rest is =
     let next : i + 1 ≡ suc i = omega arith in
     is ∙ ap star (take_rest fs (i + 1)) ∙ ap (λ n. star (drop n fs)) next
 
-ahead_length : (fs before : List Formula) (i : ℕ) → i < length fs → before ≡ take i fs → length before ≤ length fs
+pub ahead_length : (fs before : List Formula) (i : ℕ) → i < length fs → before ≡ take i fs → length before ≤ length fs
 ahead_length fs before i lt ahead = omega (arith, lt, ap length ahead ∙ taken fs i (omega (arith, lt)))
 
 pub front_done : (k : ℕ) (fs before : List Formula) (i : ℕ) (x rest left : Formula) (base p : Tree) → i < length fs → x ≡ get_or fs i x → rest ≡ star (drop (suc i) fs) → before ≡ take i fs → left ≡ x → Proves Every (entail k (view.Sep x rest) (view.Sep x rest)) [] 1 (deepest (x ∷ rest ∷ []) [] + 1) k base → Around k (30 * length before) base (star_onto before (left_side base)) (view.Sep left (star_onto before rest)) p → Moves k (length fs) (star fs) (star (in_front fs i)) p
@@ -138,7 +138,8 @@ front_done k fs before i x rest left base p lt at behind ahead lis b a =
     let a1 : Around k (30 * length before) base l1 r1 p = subst (λ (y : Formula). Around k (30 * length before) base (star_onto before y) r1 p) (base_left k 1 (deepest (x ∷ rest ∷ []) [] + 1) s s base b) a in
     let deep : deepest (x ∷ rest ∷ []) [] + 1 ≤ room l1 r1 = omega (arith, depth_sep x rest, onto_deep before s) in
     let total : 1 + 30 * length before ≤ 100 * (length fs + 1) = omega (arith, ahead_length fs before i lt ahead) in
-    let m = moved k (30 * length before) 1 (length fs) (deepest (x ∷ rest ∷ []) [] + 1) s s l1 r1 base p b a1 deep total in
+    let wants : Scopes k l1 r1 s s = λ preds e. let h = (scoped_onto preds k before s e.0).1 in (h, h) in
+    let m = built k (30 * length before) 1 (length fs) (deepest (x ∷ rest ∷ []) [] + 1) s s l1 r1 base p wants b a1 deep total in
     let here : x ≡ part_at fs i = at_place fs i x lt at in
     let left_is : l1 ≡ star fs = place_is fs before i x rest lt here behind ahead in
     let right_is : r1 ≡ star (in_front fs i) = ap (λ y. view.Sep y (star_onto before rest)) (lis ∙ here) ∙ ap (view.Sep (part_at fs i)) (rest_is fs before i rest behind ahead) ∙ star_front (without fs i) (part_at fs i) in
@@ -152,7 +153,8 @@ double_done k fs before i x rest left right base p lt at behind ahead lis ris b 
     let a1 : Around k (30 * length before) base l1 r1 p = subst (λ (y : Formula). Around k (30 * length before) base (star_onto before y) r1 p) (base_left k 11 (deepest (x ∷ rest ∷ []) [] + 3) s (view.Sep x s) base b) a in
     let deep : deepest (x ∷ rest ∷ []) [] + 3 ≤ room l1 r1 = omega (arith, depth_sep x rest, onto_deep before s) in
     let total : 11 + 30 * length before ≤ 100 * (length fs + 1) = omega (arith, ahead_length fs before i lt ahead) in
-    let m = moved k (30 * length before) 11 (length fs) (deepest (x ∷ rest ∷ []) [] + 3) s (view.Sep x s) l1 r1 base p b a1 deep total in
+    let wants : Scopes k l1 r1 s (view.Sep x s) = λ preds e. let h = (scoped_onto preds k before s e.0).1 in (h, sep_scoped preds k x s (scoped_sep preds k x rest h).0 h) in
+    let m = built k (30 * length before) 11 (length fs) (deepest (x ∷ rest ∷ []) [] + 3) s (view.Sep x s) l1 r1 base p wants b a1 deep total in
     let here : x ≡ part_at fs i = at_place fs i x lt at in
     let left_is : l1 ≡ star fs = place_is fs before i x rest lt here behind ahead in
     let right_is : r1 ≡ star (duplicated fs i) = ap (λ y. view.Sep y (star_onto before right)) (lis ∙ here) ∙ ap (λ y. view.Sep (part_at fs i) (star_onto before y)) ris ∙ ap (view.Sep (part_at fs i)) left_is ∙ star_front fs (part_at fs i) in
@@ -167,7 +169,8 @@ omit_done k fs before i x rest base p lt at behind ahead b a =
     let a1 : Around k n base l1 r1 p = subst (λ (y : Entail). Around k n base (star_onto before y.left) (star_onto before y.right) p) b.concludes a.known in
     let deep : deepest (x ∷ rest ∷ []) [] + 1 ≤ room l1 r1 = omega (arith, depth_sep x rest, onto_deep before s) in
     let total : 3 + n ≤ 100 * (length fs + 1) = omega (arith, ahead_length fs before i lt ahead) in
-    let m = moved k n 3 (length fs) (deepest (x ∷ rest ∷ []) [] + 1) s rest l1 r1 base p b a1 deep total in
+    let wants : Scopes k l1 r1 s rest = λ preds e. let h = (scoped_onto preds k before s e.0).1 in (h, (scoped_sep preds k x rest h).1) in
+    let m = built k n 3 (length fs) (deepest (x ∷ rest ∷ []) [] + 1) s rest l1 r1 base p wants b a1 deep total in
     let left_is : l1 ≡ star fs = place_is fs before i x rest lt (at_place fs i x lt at) behind ahead in
     let right_is : r1 ≡ star (without fs i) = rest_is fs before i rest behind ahead in
     subst (λ (y : Formula). Moves k (length fs) y (star (without fs i)) p) left_is (subst (λ (y : Formula). Moves k (length fs) l1 y p) right_is m)
@@ -182,7 +185,8 @@ exchange_done k fs before i rest by base p lt at behind ahead b a =
     let a1 : Around k n base l1 r1 p = subst (λ (y : Entail). Around k n base (star_onto before y.left) (star_onto before y.right) p) b.concludes a.known in
     let deep : room l r ≤ room l1 r1 = omega (arith, onto_deep before l, onto_deep before r) in
     let total : 2 + n ≤ 100 * (length fs + 1) = omega (arith, ahead_length fs before i lt ahead) in
-    let m : MovesBy by k (length fs) l1 r1 p = around_more k 2 n (100 * (length fs + 1)) by base p l r l1 r1 total deep b a1 in
+    let wants : Scopes k l1 r1 l r = λ preds e. ((scoped_onto preds k before l e.0).1, (scoped_onto preds k before r e.1).1) in
+    let m : MovesBy by k (length fs) l1 r1 p = around_more k 2 n (100 * (length fs + 1)) by base p l r l1 r1 total deep wants b a1 in
     let left_is : l1 ≡ star fs = place_is fs before i (left_side by) rest lt at behind ahead in
     let right_is : r1 ≡ star (set fs i (right_side by)) = ap (λ b. star_onto b r) ahead ∙ ap (λ y. star_onto (take i fs) (view.Sep (right_side by) y)) behind ∙ star_set fs i (right_side by) lt in
     subst (λ (y : Formula). MovesBy by k (length fs) y (star (set fs i (right_side by))) p) left_is (subst (λ (y : Formula). MovesBy by k (length fs) l1 y p) right_is m)
@@ -193,5 +197,6 @@ split_done k n listed fs base b p s =
     let a1 : Around k m base (star fs) (view.Sep b.left b.right) b.proof = subst (λ (y : Formula). Around k m base (star_onto fs y) (view.Sep b.left b.right) b.proof) (base_left k 1 5 (Assert pure.True) (view.Sep (Assert pure.True) (Assert pure.True)) base p) s.known in
     let deep : 5 ≤ room (star fs) (view.Sep b.left b.right) = omega arith in
     let total : 1 + m ≤ 100 * (length fs + 1) = omega arith in
-    let made = moved k m 1 (length fs) 5 (Assert pure.True) (view.Sep (Assert pure.True) (Assert pure.True)) (star fs) (view.Sep b.left b.right) base b.proof p a1 deep total in
+    let wants : Scopes k (star fs) (view.Sep b.left b.right) (Assert pure.True) (view.Sep (Assert pure.True) (Assert pure.True)) = λ preds e. let h = truth_scoped preds k in (h, sep_scoped preds k (Assert pure.True) (Assert pure.True) h h) in
+    let made = built k m 1 (length fs) 5 (Assert pure.True) (view.Sep (Assert pure.True) (Assert pure.True)) (star fs) (view.Sep b.left b.right) base b.proof wants p a1 deep total in
     subst (λ (y : Formula). Moves k (length fs) (star fs) y b.proof) (ap (λ y. view.Sep y b.right) s.left ∙ ap (view.Sep (star (lefts (side_at n listed) 0 fs))) s.right) made

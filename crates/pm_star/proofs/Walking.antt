@@ -4,6 +4,7 @@ use Rattle.std.proofs.lemmas.List.{get_or_default}
 use Rattle.std.proofs.lemmas.Bool.{ltb-true}
 use Rattle.std.specs.List.{list_any}
 use Rattle.pm_logic.specs.Size.{depth_of}
+use Rattle.pm_logic.specs.Scope.{Scoped}
 use Rattle.pm_logic.specs.declared.formula.Formula.{Formula}
 use Rattle.pm_logic.specs.declared.formula.Formula.TheVariants.{Pure as Assert}
 use Rattle.pm_logic.specs.declared.formula.Formula.TheViews as view
@@ -17,7 +18,8 @@ use Rattle.pm_star.specs.Levels.{IsShared, IsHalved, IsLevel, IsDealt, IsBehind,
 use Rattle.pm_star.specs.declared.side.Side.{Side}
 use Rattle.pm_star.specs.declared.side.Side.TheVariants as side
 use Rattle.pm_star.specs.declared.levels.Halves.{Halves}
-use Rattle.pm_star.proofs.Leveling.{depth_sep, deeper, deeper_right, whole}
+use Rattle.pm_star.proofs.Scoping.{Scopes, depth_sep, scoped_sep, sep_scoped, scoped_onto}
+use Rattle.pm_star.proofs.Leveling.{deeper, deeper_right, whole}
 
 -- what is left of a list, by its first item
 pub at_drop : (fs : List Formula) (i : ℕ) (x : Formula) → i < length fs → x ≡ get_or fs i x → drop i fs ≡ x ∷ drop (suc i) fs
@@ -59,12 +61,12 @@ made_all fs (suc i) made none s = absurd (omega arith)
 -- ---- around a proof
 
 pub around_self : (k n : ℕ) (by : Tree) (l r : Formula) → conclusion by ≡ entail k l r → Around k n by l r by
-around_self k n by l r is = record { concludes = is; holes = refl; valid = λ preds v. v; size = omega arith; shallow = omega arith; narrow = omega arith }
+around_self k n by l r is = record { concludes = is; holes = refl; valid = λ preds v. v; scoped = λ preds e s. s; size = omega arith; shallow = omega arith; narrow = omega arith }
 
-pub around_more : (k n m c : ℕ) (by inner out : Tree) (l r l1 r1 : Formula) → n + m ≤ c → room l r ≤ room l1 r1 → Around k n by l r inner → Around k m inner l1 r1 out → Around k c by l1 r1 out
-around_more k n m c by inner out l r l1 r1 total deep p q =
+pub around_more : (k n m c : ℕ) (by inner out : Tree) (l r l1 r1 : Formula) → n + m ≤ c → room l r ≤ room l1 r1 → Scopes k l1 r1 l r → Around k n by l r inner → Around k m inner l1 r1 out → Around k c by l1 r1 out
+around_more k n m c by inner out l r l1 r1 total deep wants p q =
     extends_weaker by out (entail k l1 r1) (n + m) (room l1 r1) k c (room l1 r1) k total (omega arith) (omega arith)
-    (extends_more by inner out (entail k l r) (entail k l1 r1) n m (room l1 r1) k (extends_weaker by inner (entail k l r) n (room l r) k n (room l1 r1) k (omega arith) deep (omega arith) p) q)
+    (extends_more by inner out (entail k l r) (entail k l1 r1) n m (room l1 r1) k (extends_weaker by inner (entail k l r) n (room l r) k n (room l1 r1) k (omega arith) deep (omega arith) p) q (λ preds s all. wants preds s))
 
 -- ---- behind the parts
 
@@ -81,9 +83,10 @@ behind_more k fs i x by inner out lt at s q =
     let q1 : Around k 2 inner (view.Sep x l) (view.Sep x r) out = subst (λ (y : Entail). Around k 2 inner (view.Sep x y.left) (view.Sep x y.right) out) s.known.concludes q in
     let deep : room l r ≤ room (view.Sep x l) (view.Sep x r) = omega (arith, depth_sep x l, depth_sep x r) in
     let total : 2 * (length fs - suc i) + 2 ≤ 2 * (length fs - i) = omega (arith, lt) in
+    let wants : Scopes k (view.Sep x l) (view.Sep x r) l r = λ preds e. ((scoped_sep preds k x l e.0).1, (scoped_sep preds k x r e.1).1) in
     record {
       within = omega arith;
-      known = rw (star_drop fs i x (left_side by) lt at, star_drop fs i x (right_side by) lt at) (around_more k (2 * (length fs - suc i)) 2 (2 * (length fs - i)) by inner out l r (view.Sep x l) (view.Sep x r) total deep s.known q1);
+      known = rw (star_drop fs i x (left_side by) lt at, star_drop fs i x (right_side by) lt at) (around_more k (2 * (length fs - suc i)) 2 (2 * (length fs - i)) by inner out l r (view.Sep x l) (view.Sep x r) total deep wants s.known q1);
     }
 
 pub behind_less : (k : ℕ) (fs : List Formula) (i : ℕ) (x : Formula) (by inner out : Tree) → 0 < i → x ≡ get_or fs (i - 1) x → IsBehind k fs i by inner → Around k 2 inner (view.Sep x (left_side inner)) (view.Sep x (right_side inner)) out → IsBehind k fs (i - 1) by out
@@ -149,11 +152,16 @@ dealt_more k side fs i x a b c lt at s q =
     let dr : depth_of b.right ≤ depth_of c.right = rw q.right (deeper_right (side i) x b.right) in
     let deep : room l (view.Sep b.left b.right) ≤ room (view.Sep x l) (view.Sep c.left c.right) = omega (arith, depth_sep x l, depth_sep b.left b.right, depth_sep c.left c.right, dl, dr) in
     let total : 30 * (length fs - suc i) + 30 ≤ 30 * (length fs - i) = omega (arith, lt) in
+    let wants : Scopes k (view.Sep x l) (view.Sep c.left c.right) l (view.Sep b.left b.right) = λ preds e.
+    let h = scoped_sep preds k c.left c.right e.1 in
+    let hl = (scoped_onto preds k (left_more (side i) x []) b.left (subst (Scoped preds k) q.left h.0)).1 in
+    let hr = (scoped_onto preds k (right_more (side i) x []) b.right (subst (Scoped preds k) q.right h.1)).1 in
+    ((scoped_sep preds k x l e.0).1, sep_scoped preds k b.left b.right hl hr) in
     record {
       within = omega arith;
       left = q.left ∙ ap (star_onto (left_more (side i) x [])) s.left ∙ left_onto (side i) x (lefts side (suc i) rest) a.left ∙ ap (λ ls. star_onto (lefts side i ls) a.left) (sym is);
       right = q.right ∙ ap (star_onto (right_more (side i) x [])) s.right ∙ right_onto (side i) x (rights side (suc i) rest) a.right ∙ ap (λ ls. star_onto (rights side i ls) a.right) (sym is);
-      known = rw (star_drop fs i x (left_side a.proof) lt at) (around_more k (30 * (length fs - suc i)) 30 (30 * (length fs - i)) a.proof b.proof c.proof l (view.Sep b.left b.right) (view.Sep x l) (view.Sep c.left c.right) total deep s.known q1);
+      known = rw (star_drop fs i x (left_side a.proof) lt at) (around_more k (30 * (length fs - suc i)) 30 (30 * (length fs - i)) a.proof b.proof c.proof l (view.Sep b.left b.right) (view.Sep x l) (view.Sep c.left c.right) total deep wants s.known q1);
     }
 
 pub dealt_less : (k : ℕ) (side : ℕ → Side) (fs : List Formula) (i : ℕ) (x : Formula) (z : Side) (a b c : Halves) → 0 < i → x ≡ get_or fs (i - 1) x → z ≡ side (i - 1) → IsDealt k side fs i a b → IsLevel k x z b c → IsDealt k side fs (i - 1) a c

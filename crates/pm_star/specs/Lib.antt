@@ -1,2 +1,4 @@
 pub mod Stars
 pub mod Levels
+pub mod Scopes
+pub mod Chains

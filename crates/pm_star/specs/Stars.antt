@@ -1,11 +1,12 @@
 -- Flat stars, and what a move makes of one.
-use Rattle.std.specs.Prelude.{ℕ, suc, ◌+◌, ◌*◌, cond, nat_lt, ◌==◌, List, [], ◌∷◌, ◌++◌, get_or, remove}
+use Rattle.std.specs.Prelude.{◌≡◌, ℕ, suc, ◌+◌, ◌*◌, ◌<◌, ◌⊎◌, cond, nat_lt, ◌==◌, Some, option_map, List, [], ◌∷◌, ◌++◌, length, get_or, slice_get, remove}
 use Rattle.std.specs.List.{list_any}
 use Rattle.pm_logic.specs.declared.formula.Formula.{Formula}
 use Rattle.pm_logic.specs.declared.formula.Formula.TheVariants.{Pure as Assert}
 use Rattle.pm_logic.specs.declared.formula.Formula.TheViews as view
 use Rattle.pm_logic.specs.declared.formula.Pure.TheVariants as pure
 use Rattle.pm_goal.specs.declared.goal.Goal.{Goal}
+use Rattle.pm_goal.specs.declared.work.Held.{Held}
 use Rattle.pm_goal.specs.declared.work.Work.{Work}
 use Rattle.pm_goal.specs.declared.work.Kind.TheVariants as kind
 use Rattle.pm_goal.specs.Left.{star_onto, facts, hyps_as, hyps, held_parts}
@@ -29,6 +30,10 @@ parts goal = shared goal ++ hyps goal.spats
 -- those in hand stand behind
 abbrev pub work_parts : Work → List Formula
 work_parts work = parts work.goal ++ held_parts work.held
+
+-- the place of a part of the goal that may be used any number of times, or of an intuitionistic one in hand
+abbrev pub MayRepeat : Work → ℕ → Type 0
+MayRepeat work place = (place < length (shared work.goal)) ⊎ ((i : ℕ) × (place ≡ length (parts work.goal) + i) × (option_map (λ (h : Held). h.kind) (slice_get work.held i) ≡ Some kind.Int))
 
 abbrev pub part_at : List Formula → ℕ → Formula
 part_at fs i = get_or fs i (Assert pure.True)

@@ -75,6 +75,15 @@ pub fn push_spats(alloc: Global, goal: &Goal, out: &mut List<Formula>) -> Result
     push_hyps(alloc, Kind::Spat, &goal.spats, out)
 }
 
+/// The spatial ones alone.
+pub fn spats_of(alloc: Global, goal: &Goal) -> Result<List<Formula>, Memory>
+    ensures { IfOk result (λ l. l ≡ hyps goal.now.spats) }
+{
+    let mut out = List::new(alloc);
+    push_hyps(alloc, Kind::Spat, &goal.spats, &mut out)?;
+    Ok(out)
+}
+
 /// All parts of a goal's star.
 pub fn parts_of(alloc: Global, goal: &Goal) -> Result<List<Formula>, Memory>
     ensures { IfOk result (λ l. l ≡ parts goal.now) }

@@ -1,16 +1,19 @@
 //! The moves within the star of a goal. Each proof has at most 100 rules for each part of the star and 100 more, no formula
 //! in it is deeper by more than 8 than the deeper side of what it proves, and it is in the goal's variables.
 
-ghost use Rattle.std.specs.Prelude.{◌≡◌, ◌<◌, ◌^◌, IfOk, length, set};
+ghost use Rattle.std.specs.Prelude.{◌≡◌, ◌<◌, ◌≤◌, ◌^◌, IfOk, length, set, insert};
+ghost use Rattle.pm_logic.specs.declared.formula.Formula.TheViews as view;
 ghost use Rattle.pm_goal.specs.Left.{left_of};
 ghost use Rattle.pm_proof.specs.Trees.{conclusion};
 ghost use Rattle.pm_star.specs.Stars.{star, shared, parts, part_at, without, in_front, duplicated, dealt, Moves, MovesBy};
 ghost use Rattle.pm_star.specs.Levels.{left_side, right_side};
 
-use crate::collecting::{parts_of, push_spats, shared_parts};
+use crate::boxing::to_box;
+use crate::collecting::{parts_of, push_spats, shared_parts, spats_of};
 use crate::moves::{double, exchange, omit, split, to_front};
+use crate::sinking::to_place;
 use pm_goal::Goal;
-use pm_logic::{List, Memory};
+use pm_logic::{Formula, List, Memory};
 use pm_proof::Proof;
 use std::alloc::Global;
 
@@ -78,5 +81,29 @@ pub fn partition(alloc: Global, goal: &Goal, left: &List<u32>) -> Result<Proof, 
     push_spats(alloc, goal, &mut parts)?;
     let vars = goal.vars.len() as u32;
     let proof = split(alloc, vars, parts.as_slice(), shared, left.as_slice())?;
+    Ok(proof)
+}
+
+/// From `a` beside the star to the star with `a` at the place, before the part that has it now, or behind all.
+pub fn sink(alloc: Global, goal: &Goal, a: &Formula, place: u32) -> Result<Proof, Memory>
+    requires vars { length goal.now.vars < 2 ^ 32 }
+    requires place { place ≤ length (parts goal.now) }
+    ensures { IfOk result (λ p. Moves (length goal.now.vars) (length (parts goal.now)) (view.Sep a.now (left_of goal.now)) (star (insert (parts goal.now) place a.now)) p) }
+{
+    let parts = parts_of(alloc, goal)?;
+    let vars = goal.vars.len() as u32;
+    let proof = to_place(alloc, vars, a, parts.as_slice(), place as usize)?;
+    Ok(proof)
+}
+
+/// From the star to the star of the facts and the intuitionistic hypotheses alone, under a box.
+pub fn boxed(alloc: Global, goal: &Goal) -> Result<Proof, Memory>
+    requires { length goal.now.vars < 2 ^ 32 }
+    ensures { IfOk result (λ p. Moves (length goal.now.vars) (length (parts goal.now)) (left_of goal.now) (view.Pers (star (shared goal.now))) p) }
+{
+    let shared = shared_parts(alloc, goal)?;
+    let spats = spats_of(alloc, goal)?;
+    let vars = goal.vars.len() as u32;
+    let proof = to_box(alloc, vars, shared.as_slice(), spats.as_slice())?;
     Ok(proof)
 }

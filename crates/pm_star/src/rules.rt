@@ -151,6 +151,54 @@ static TO_BOTH: Scheme = step!(
     )
 );
 
+/// A ∗ (Q ∗ X) ⊢ Q ∗ (A ∗ X)
+const SWAPPED: Scheme = step!(
+    Trans, sep!(A, sep!(Q, X)) => sep!(Q, sep!(A, X));
+    step!(SepAssocL, sep!(A, sep!(Q, X)) => sep!(sep!(A, Q), X));
+    step!(
+        Trans, sep!(sep!(A, Q), X) => sep!(Q, sep!(A, X));
+        step!(
+            SepMono, sep!(sep!(A, Q), X) => sep!(sep!(Q, A), X);
+            step!(SepComm, sep!(A, Q) => sep!(Q, A));
+            step!(Refl, X => X)
+        );
+        step!(SepAssocR, sep!(sep!(Q, A), X) => sep!(Q, sep!(A, X)))
+    )
+);
+
+/// From A ∗ X ⊢ P: A ∗ (Q ∗ X) ⊢ Q ∗ P.
+static PASSED: Scheme = step!(
+    Trans, sep!(A, sep!(Q, X)) => sep!(Q, P);
+    SWAPPED;
+    step!(
+        SepMono, sep!(Q, sep!(A, X)) => sep!(Q, P);
+        step!(Refl, Q => Q);
+        gap!(sep!(A, X) => P)
+    )
+);
+
+/// From A ⊢ P ∗ Q: A ∗ X ⊢ P ∗ (Q ∗ X).
+static UNPAIRED: Scheme = step!(
+    Trans, sep!(A, X) => sep!(P, sep!(Q, X));
+    step!(
+        SepMono, sep!(A, X) => sep!(sep!(P, Q), X);
+        gap!(A => sep!(P, Q));
+        step!(Refl, X => X)
+    );
+    step!(SepAssocR, sep!(sep!(P, Q), X) => sep!(P, sep!(Q, X)))
+);
+
+/// From P ∗ Q ⊢ A: P ∗ (Q ∗ X) ⊢ A ∗ X.
+static MERGED: Scheme = step!(
+    Trans, sep!(P, sep!(Q, X)) => sep!(A, X);
+    step!(SepAssocL, sep!(P, sep!(Q, X)) => sep!(sep!(P, Q), X));
+    step!(
+        SepMono, sep!(sep!(P, Q), X) => sep!(A, X);
+        gap!(sep!(P, Q) => A);
+        step!(Refl, X => X)
+    )
+);
+
 /// `A ∗ X ⊢ A ∗ X`
 #[tactic(auto, unfolding(pm_schemes::specs::Tests::passes, pm_schemes::specs::Tests::fits_row))]
 pub fn same(alloc: Global, vars: u32, a: &Formula, x: &Formula) -> Result<Proof, Memory>
@@ -311,5 +359,65 @@ pub fn to_both(
         pures: &[],
     };
     let proof = derive(alloc, vars, &TO_BOTH, letters)?;
+    Ok(proof)
+}
+
+/// From `A ∗ X ⊢ P`, which is its hole: `A ∗ (Q ∗ X) ⊢ Q ∗ P`.
+#[tactic(auto, unfolding(pm_schemes::specs::Tests::passes, pm_schemes::specs::Tests::fits_row))]
+pub fn passed(
+    alloc: Global,
+    vars: u32,
+    a: &Formula,
+    x: &Formula,
+    p: &Formula,
+    q: &Formula,
+) -> Result<Proof, Memory>
+    ensures { IfOk result (λ t. Proves Every (entail vars (view.Sep a.now (view.Sep q.now x.now)) (view.Sep q.now p.now)) (entail vars (view.Sep a.now x.now) p.now ∷ []) 10 (deepest (a.now ∷ x.now ∷ p.now ∷ q.now ∷ []) [] + 2) vars t) }
+{
+    let letters = Letters {
+        formulas: &[a, x, p, q],
+        pures: &[],
+    };
+    let proof = derive(alloc, vars, &PASSED, letters)?;
+    Ok(proof)
+}
+
+/// From `A ⊢ P ∗ Q`, which is its hole: `A ∗ X ⊢ P ∗ (Q ∗ X)`.
+#[tactic(auto, unfolding(pm_schemes::specs::Tests::passes, pm_schemes::specs::Tests::fits_row))]
+pub fn unpaired(
+    alloc: Global,
+    vars: u32,
+    a: &Formula,
+    x: &Formula,
+    p: &Formula,
+    q: &Formula,
+) -> Result<Proof, Memory>
+    ensures { IfOk result (λ t. Proves Every (entail vars (view.Sep a.now x.now) (view.Sep p.now (view.Sep q.now x.now))) (entail vars a.now (view.Sep p.now q.now) ∷ []) 4 (deepest (a.now ∷ x.now ∷ p.now ∷ q.now ∷ []) [] + 2) vars t) }
+{
+    let letters = Letters {
+        formulas: &[a, x, p, q],
+        pures: &[],
+    };
+    let proof = derive(alloc, vars, &UNPAIRED, letters)?;
+    Ok(proof)
+}
+
+/// From `P ∗ Q ⊢ A`, which is its hole: `P ∗ (Q ∗ X) ⊢ A ∗ X`.
+#[tactic(auto, unfolding(pm_schemes::specs::Tests::passes, pm_schemes::specs::Tests::fits_row))]
+pub fn merged(
+    alloc: Global,
+    vars: u32,
+    a: &Formula,
+    x: &Formula,
+    p: &Formula,
+    q: &Formula,
+) -> Result<Proof, Memory>
+    ensures { IfOk result (λ t. Proves Every (entail vars (view.Sep p.now (view.Sep q.now x.now)) (view.Sep a.now x.now)) (entail vars (view.Sep p.now q.now) a.now ∷ []) 4 (deepest (a.now ∷ x.now ∷ p.now ∷ q.now ∷ []) [] + 2) vars t) }
+{
+    let letters = Letters {
+        formulas: &[a, x, p, q],
+        pures: &[],
+    };
+    let proof = derive(alloc, vars, &MERGED, letters)?;
     Ok(proof)
 }
