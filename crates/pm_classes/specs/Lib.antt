@@ -1,0 +1,2 @@
+pub mod Persistence
+pub mod Classes

@@ -1,0 +1,11 @@
+pub mod Keeping
+pub mod Acting
+pub mod Equals
+pub mod Framings
+pub mod Applications
+pub mod Boxes
+pub mod Within
+pub mod Outcomes
+pub mod Counting
+pub mod Apart
+pub mod Deals

@@ -1,0 +1,24 @@
+//! Laws of steps.
+
+ghost use Rattle.pm_table.specs.Dealing.{SplitsDeal, PremisesDeal};
+ghost use Rattle.pm_table.specs.Stepping.{StepsStayWithinLimits, StepsKeepNamesApart};
+
+/// A goal within the limits goes to goals within them, or the directive is refused.
+pub fn steps_stay_within_limits()
+    ensures { StepsStayWithinLimits }
+{}
+
+/// The names of a new goal differ where those of the old one do.
+pub fn steps_keep_names_apart()
+    ensures { StepsKeepNamesApart }
+{}
+
+/// `iSplitL` and `iSplitR` give each spatial hypothesis to exactly one goal.
+pub fn splits_deal()
+    ensures { SplitsDeal }
+{}
+
+/// `[H $K …]` and `[-H …]` give each spatial hypothesis to exactly one goal, or it is framed.
+pub fn premises_deal()
+    ensures { PremisesDeal }
+{}
