@@ -1,77 +1,158 @@
 -- What sentences do to what a running script keeps.
-use Rattle.std.proofs.Common.{◌≡◌, ◌⊎◌, inl, inr, ℕ, ◌+◌, ◌-◌, ◌^◌, ◌<◌, ◌≤◌, min, Bool, true, false, not, ◌||◌, List, [], ◌∷◌, ◌++◌, length, length-append, append-nil, refl, sym, ◌∙◌, ap, ap₂, subst, arith, Option, Some, None, Result, Ok, Err}
-use Rattle.std.specs.Prelude.{IsTrue, IfOk, is_some}
-use Rattle.std.specs.Bool.{OnTrue}
+use Rattle.std.proofs.Common.{◌≡◌, ◌⊎◌, inl, inr, ℕ, suc, ◌+◌, ◌-◌, ◌^◌, ◌<◌, ◌≤◌, min, Bool, true, false, not, ◌||◌, List, [], ◌∷◌, ◌++◌, length, length-append, map, reverse, take, drop, refl, sym, ◌∙◌, ap, ap₂, subst, arith, Option, Some, None, Result, Ok, Err}
+use Rattle.std.proofs.Math.Seq.{drop-length}
+use Rattle.std.proofs.lemmas.List.{append-nil, length-map, length-reverse, map-append, take_all}
+use Rattle.std.proofs.lemmas.Bool.Decides.{Decides-eqb}
+use Rattle.std.specs.Prelude.{IsTrue, IfOk, is_some, ◌==◌}
+use Rattle.std.specs.List.{AllByRecursion}
 use Rattle.std.specs.Str.{bytes_eq}
-use Rattle.pm_logic.specs.declared.limits.TheConstants.{MAX_LEMMAS, MAX_VARIABLES}
+use Rattle.pm_logic.specs.declared.limits.TheConstants.{MAX_LEMMAS, MAX_LEVELS, MAX_LINE_LEVELS, MAX_LINE_VARIABLES, MAX_VARIABLES}
 use Rattle.pm_logic.specs.declared.formula.Formula.{Formula}
 use Rattle.pm_logic.specs.declared.formula.Pred.{Pred}
+use Rattle.pm_logic.specs.declared.formula.Preds.{Preds}
 use Rattle.pm_logic.specs.Size.{depth_of}
 use Rattle.pm_names.specs.Names.{is_name}
+use Rattle.pm_dtext.specs.Ranges.{InRange}
+use Rattle.pm_dtext.specs.Texts.{arities_of}
+use Rattle.pm_rules.specs.declared.rules.Entail.{Entail}
 use Rattle.pm_check.specs.declared.checked.Statement.{Statement}
+use Rattle.pm_check.specs.Fronts.{EachBehind}
+use Rattle.pm_check.specs.Lines.{is_used as is_stated}
 use Rattle.pm_name_sets.specs.Sets.{has, Adds}
-use Rattle.pm_derive.proofs.Lawful.{sides_are_grown}
-use Rattle.pm_derive.specs.declared.derivation.Derivation.{Derivation}
-use Rattle.pm_derive.specs.Sides.{IsProvedBy}
-use Rattle.pm_derive.specs.Stating.{IsNew, States}
 use Rattle.pm_goal.specs.declared.goal.Goal.{Goal}
+use Rattle.pm_goal.specs.Left.{star_onto}
+use Rattle.pm_proof.specs.declared.joining.Step.{Step as ProofStep}
+use Rattle.pm_proof.specs.Trees.{Tree, Hole, Axiom, First, Second, Both, conclusion, holes_of, hole_count, depth, variables}
+use Rattle.pm_proof.specs.Valid.{Valid, EntailScoped, IsScoped}
+use Rattle.pm_proof.specs.Known.{Tables, IsAmong}
+use Rattle.pm_proof.specs.Joins.{goals_of, lemmas_of, Leads, IsComplete, used, Joins}
+use Rattle.pm_proof.proofs.Scoping.{scoped_fits}
+use Rattle.pm_proof.proofs.Joins.{leads_more, all_used}
+use Rattle.pm_star.proofs.Scoping.{truth_scoped}
+use Rattle.pm_write.specs.declared.writing.Named.{Named}
+use Rattle.pm_write.specs.Derived.{statement_of, names_of as written_names, conclusions, IsOneOf, IsWritable, AreWritable}
 use Rattle.pm_script.specs.declared.sentence.Sentence.{Sentence}
 use Rattle.pm_script.specs.declared.sentence.Sentence.TheVariants as sentence
 use Rattle.pm_script.specs.declared.sentence.Stated.TheVariants as stated
 use Rattle.pm_script.specs.Stating.{stated_of}
+use Rattle.pm_script.specs.declared.directive.Directive.{Directive}
 use Rattle.pm_goal.specs.declared.refusal.Row.{Row}
-use Rattle.pm_goal.specs.declared.refusal.Row.TheVariants.{NoOpenProof, GoalsRemain, NoGoalInFocus}
-use Rattle.pm_run.specs.declared.proof.Stage.{Stage}
-use Rattle.pm_run.specs.declared.proof.Stage.TheVariants as stage
+use Rattle.pm_goal.specs.declared.refusal.Row.TheVariants.{GoalsRemain}
 use Rattle.pm_run.specs.declared.proof.Proof.{Proof}
-use Rattle.pm_run.specs.declared.goals.Stepped.TheVariants as stepped
 use Rattle.pm_run.specs.declared.running.Running.{Running}
 use Rattle.pm_run.specs.declared.running.Done.{Done}
 use Rattle.pm_run.specs.declared.running.Done.TheVariants as done
 use Rattle.pm_goal.specs.Refusals.{refusal}
-use Rattle.pm_run.specs.Rows.{Table, no_row}
-use Rattle.pm_run.specs.Steps.{Step, step_of, step_name, step_goals}
-use Rattle.pm_run.specs.Stepping.{IsUnder, StageFits, goals_of, introduces, StageStepped, StageIsSmall}
+use Rattle.pm_run.specs.Rows.{Table}
+use Rattle.pm_run.specs.Steps.{Step, step_of, step_name, step_rows, step_goals}
+use Rattle.pm_run.specs.Stepping.{meaning, IsWithin, Shows}
 use Rattle.pm_run.specs.Runs.{OpenProof, State, Answer, moves, refuses, unbuilt, Answers, is_used, opening, predicate_rows, with_predicate, lemma_rows, opened, proved, proof_rows, qed_rows, qed_state, directive_rows, directive_state, goal_rows, new_goals, Does}
 use Rattle.pm_run.specs.Runs as runs
-use Rattle.pm_script.specs.declared.directive.Directive.{Directive}
-use Rattle.pm_run.specs.Keeping.{DirectsIf, StatesNothing, UsesLastName, KeepsProof, KeepsProofs, IsSayable, Keeps, IsAnswered, IsDone, IsDoing}
-use Rattle.pm_run.proofs.Sounds.{sound_predicate, sound_lemma, sound_qed, sound_step, new_qed, open_provable, names_with_predicate, names_proved}
+use Rattle.pm_run.specs.Keeping.{IsLeft, IsSafe, KeepsProof, KeepsProofs, table, tables, Keeps, IsSayable, IsAnswered, IsDone, IsDoing, AreWithin, IsBegun, IsStepped, IsProved, UsesLastName, DirectsIf, StatesNothing}
+use Rattle.pm_run.proofs.Growing.{scoped_longer, among_before}
+use Rattle.pm_run.proofs.Meanings.{left_depth, concl_depth, step_scoped, step_within}
+use Rattle.pm_run.proofs.Sounds.{none_when, sound_predicate, sound_lemma, sound_qed, sound_step, new_qed, names_with_predicate, names_proved}
+
+-- ---- numbers
+
+pub is_none : (n : ℕ) → (n == 0) ≡ true → n ≡ 0
+is_none n e = (Decides-eqb n 0).0 e
+
+pub is_some_number : (n : ℕ) → (n == 0) ≡ false → ¬ (n ≡ 0)
+is_some_number n e zero_is = absurd (let t : true ≡ false = sym ((Decides-eqb n 0).1 zero_is) ∙ e in cc t)
+
+-- ---- lists
+
+no_items : {A : Type 0} (xs : List A) → length xs ≡ 0 → xs ≡ []
+no_items [] e = refl
+no_items (x ∷ xs) e = absurd (omega (arith, e))
+
+map_end : {A B : Type 0} (f : A → B) (xs : List A) (x : A) → map f (xs ++ x ∷ []) ≡ map f xs ++ f x ∷ []
+map_end f [] x = refl
+map_end f (y ∷ xs) x = ap (λ zs. f y ∷ zs) (map_end f xs x)
+
+-- the names of proofs are those of what they say
+names_stated : (xs : List Named) → written_names xs ≡ map (λ (l : Statement). l.name) (map statement_of xs)
+names_stated [] = refl
+names_stated (x ∷ xs) = ap (λ (ns : List (List ℕ)). x.name ∷ ns) (names_stated xs)
+
+-- the last item, or one before it
+last_or_before : {A : Type 0} (xs before behind : List A) (x y : A) → xs ++ x ∷ [] ≡ before ++ y ∷ behind → ((before ≡ xs) × (y ≡ x)) ⊎ ((more : List A) × (xs ≡ before ++ y ∷ more))
+last_or_before [] [] behind x y e = inl (refl, cc)
+last_or_before [] (b ∷ []) behind x y e = absurd cc
+last_or_before [] (b ∷ (c ∷ before)) behind x y e = absurd cc
+last_or_before (z ∷ xs) [] behind x y e = let same : z ≡ y = cc in inr (xs, ap (λ w. w ∷ xs) same)
+last_or_before (z ∷ xs) (b ∷ before) behind x y e =
+    let same : z ≡ b = cc in
+    let rest : xs ++ x ∷ [] ≡ before ++ y ∷ behind = cc in
+    elim (last_or_before xs before behind x y rest) [
+      | inl s ↦ inl (ap₂ (λ w ws. w ∷ ws) (sym same) s.0, s.1)
+      | inr s ↦ inr (s.0, ap₂ (λ w ws. w ∷ ws) same s.1)
+    ]
+
+each_more : {A : Type 0} (P : List A → A → Type 0) (xs : List A) (x : A) → EachBehind P xs → P xs x → EachBehind P (xs ++ x ∷ [])
+each_more {A} P xs x all here = λ before y behind e. go before y (last_or_before xs before behind x y e)
+  where
+    go : (before : List A) (y : A) → ((before ≡ xs) × (y ≡ x)) ⊎ ((more : List A) × (xs ≡ before ++ y ∷ more)) → P before y
+    go before y (inl s) = subst (λ ys. P ys y) (sym s.0) (subst (P xs) (sym s.1) here)
+    go before y (inr s) = all before y s.0 s.1
+
+counted : (t : Tree) → length (holes_of t) ≡ hole_count t
+counted (Hole e) = refl
+counted (Axiom r e) = refl
+counted (First r e a) = counted a
+counted (Second r e b) = counted b
+counted (Both r e a b) = length-append (holes_of a) (holes_of b) ∙ ap₂ (λ n m. n + m) (counted a) (counted b)
 
 -- ---- answers
 
-pub refused_is : (name : List ℕ) (table : Table) (state : State) (new : Running) (d : Done) (row : Row) → d ≡ done.Refused (refusal row name) → table (Some row) → IsAnswered name table state new d
-refused_is name table state new d row e t = subst (IsAnswered name table state new) (sym e) (row, t, refl)
+pub refused_is : (name : List ℕ) (table : Table) (state : State) (old new : Running) (d : Done) (row : Row) → d ≡ done.Refused (refusal row name) → table (Some row) → new ≡ old → IsAnswered name table state old new d
+refused_is name table state old new d row e t same = subst (IsAnswered name table state old new) (sym e) (row, t, refl, same)
 
 pub on_ok : {A E : Type 0} (P Q : A → Type 0) (r : Result A E) → ((x : A) → P x → Q x) → IfOk r P → IfOk r Q
 on_ok P Q (Ok x) f h = f x h
 on_ok P Q (Err e) f h = tt
 
-pub doing : (name : List ℕ) (table : Table) (state : State) (new : Running) (d : Done) → IsAnswered name table state new d → (a : Answer) × Answers name table state a × IsDone new a d
-doing name table state new done.Moved h = (moves state, (None, h.0, refl), (refl, h.1))
-doing name table state new (done.Refused r) h = (refuses (refusal h.0 name), (Some h.0, h.1, refl), ap done.Refused h.2)
-doing name table state new done.Unbuilt h = absurd h
+pub doing : (name : List ℕ) (table : Table) (state : State) (old new : Running) (d : Done) → IsAnswered name table state old new d → (a : Answer) × Answers name table state a × IsDone old new a d
+doing name table state old new done.Moved h = (moves state, (None, h.0, refl), (refl, h.1))
+doing name table state old new (done.Refused r) h = (refuses (refusal h.0 name), (Some h.0, h.1, refl), (ap done.Refused h.2, h.3))
+doing name table state old new done.Unbuilt h = absurd h
 
 -- ---- proofs that are open
 
-pub open_same : (p : Option Proof) (o : Option OpenProof) → KeepsProofs p o → is_some p ≡ is_some o
-open_same None None k = refl
-open_same (Some p) (Some o) k = refl
-open_same None (Some o) k = absurd k
-open_same (Some p) None k = absurd k
+pub open_same : (on : Tables) (known : List Entail) (p : Option Proof) (o : Option OpenProof) → KeepsProofs on known p o → is_some p ≡ is_some o
+open_same on known None None k = refl
+open_same on known (Some p) (Some o) k = refl
+open_same on known None (Some o) k = absurd k
+open_same on known (Some p) None k = absurd k
+
+-- whether the code's and the state's are open is the same
+pub kept_open : (r : Running) (s : State) → Keeps r s → is_some r.proof ≡ is_some s.proof
+kept_open r s k = open_same (tables s) (conclusions r.proofs) r.proof s.proof k.proof_is
 
 -- what is known of an open proof
 pub record IsOpen (r : Running) (s : State) (p : Proof) : Type 0 where
   pub o : OpenProof
   pub is : s.proof ≡ Some o
-  pub keeps : KeepsProof p o
+  pub keeps : KeepsProof (tables s) (conclusions r.proofs) p o
 
 pub is_opened : (r : Running) (s : State) (p : Proof) → r.proof ≡ Some p → Keeps r s → IsOpen r s p
-is_opened r s p e k = go s.proof refl (subst (λ (q : Option Proof). KeepsProofs q s.proof) e k.proof_is)
+is_opened r s p e k = go s.proof refl (subst (λ (q : Option Proof). KeepsProofs (tables s) (conclusions r.proofs) q s.proof) e k.proof_is)
   where
-    go : (o : Option OpenProof) → s.proof ≡ o → KeepsProofs (Some p) o → IsOpen r s p
+    go : (o : Option OpenProof) → s.proof ≡ o → KeepsProofs (tables s) (conclusions r.proofs) (Some p) o → IsOpen r s p
     go None e k = absurd k
     go (Some o) e k = record { o = o; is = e; keeps = k }
+
+-- where none is open, nothing of one is kept
+pub none_kept : (on : Tables) (known : List Entail) (p : Option Proof) (o : Option OpenProof) → ¬ IsTrue (is_some o) → is_some p ≡ is_some o → KeepsProofs on known p o
+none_kept on known None None closed same = tt
+none_kept on known p (Some o) closed same = absurd (closed refl)
+none_kept on known (Some p) None closed same = absurd cc
+
+-- in every goal that is left the limits are kept
+pub all_within : (on : Tables) (goals : List Goal) → AllByRecursion (IsLeft on) goals → AreWithin goals
+all_within on [] all = tt
+all_within on (g ∷ gs) all = (all.0.within, all_within on gs all.1)
 
 -- ---- predicates
 
@@ -102,27 +183,45 @@ predicate_added old new s name params body count arity k sayable counts arities 
         names_are = λ n. adds.has n ∙ (ap (λ b. b || bytes_eq n name) (k.names_are n) ∙ sym (names_with_predicate s name params body n));
         lemmas_are = k.lemmas_are;
         states = k.states;
-        proof_is = k.proof_is;
+        writable = λ preds among. k.writable preds (among_before s.preds (record { name = name; arity = length params; body = body }) preds among);
+        proof_is = none_kept (tables (with_predicate s name params body)) (conclusions old.proofs) old.proof s.proof (none_when rows).0 (kept_open old s k);
         sound = sound_predicate s name params body k.sound sayable rows;
       }),
     )
 
 -- ---- lemmas
 
-pub lemma_opened : (old : Running) (s : State) (name : List ℕ) (statement : Formula) (goal : Goal) → Keeps old s → IsSayable s (sentence.Lemma name statement) → goal ≡ opening statement → lemma_rows s name statement None
-    → lemma_rows s name statement None × Keeps (record { preds = old.preds; names = old.names; lemmas = old.lemmas; derivation = old.derivation; proof = Some (record { name = name; statement = statement; count = 0; stage = stage.Left goal }) }) (opened s name statement)
-lemma_opened old s name statement goal k sayable is rows = (
+-- what a lemma opens with is within the limits, and scoped in each table that comes
+opening_scoped : (s : State) (statement : Formula) (preds : Preds) → InRange (arities_of s.preds) 0 statement → IsAmong (tables s) preds → EntailScoped preds (meaning (opening statement))
+unfolding star_onto
+opening_scoped s statement preds over among = (truth_scoped preds 0, scoped_longer (table s) preds 0 statement among over)
+
+opening_within : (s : State) (statement : Formula) → InRange (arities_of s.preds) 0 statement → depth_of statement ≤ MAX_LEVELS → IsWithin (opening statement)
+opening_within s statement over shallow = record {
+  vars = omega arith;
+  few = omega arith;
+  shallow = omega (arith, shallow);
+  preds = table s;
+  scoped = opening_scoped s statement (table s) over ([], sym (append-nil s.preds));
+}
+
+pub lemma_opened : (old : Running) (s : State) (name : List ℕ) (statement : Formula) (p : Proof) → Keeps old s → IsSayable s (sentence.Lemma name statement) → IsBegun name statement p → lemma_rows s name statement None
+    → lemma_rows s name statement None × Keeps (record { preds = old.preds; names = old.names; lemmas = old.lemmas; proofs = old.proofs; proof = Some p }) (opened s name statement)
+lemma_opened old s name statement p k sayable begun rows = (
   rows,
   record {
     preds_are = k.preds_are;
     names_are = k.names_are;
     lemmas_are = k.lemmas_are;
     states = k.states;
+    writable = k.writable;
     proof_is = record {
-      name_is = refl;
-      statement_is = refl;
-      goals_are = ap (λ g. g ∷ []) is;
-      fits = subst (IsUnder statement 0) (sym is) (record { apart = sides_are_grown.none statement; spatial = record { vars = refl; pures = refl; ints = refl }; few = omega arith; count_is = refl });
+      name_is = begun.name_is;
+      statement_is = begun.statement_is;
+      goals_are = ap reverse begun.goals_are;
+      leads = subst (λ (ss : List ProofStep). Leads (meaning (opening statement) ∷ []) ss (meaning (opening statement) ∷ [])) (sym begun.steps_are) refl;
+      safe = subst (AllByRecursion (IsSafe (tables s) (conclusions old.proofs))) (sym begun.steps_are) tt;
+      left = (record { within = opening_within s statement sayable.1 sayable.2; scoped = λ preds among. opening_scoped s statement preds sayable.1 among }, tt);
     };
     sound = sound_lemma s name statement k.sound sayable rows;
   },
@@ -130,35 +229,103 @@ lemma_opened old s name statement goal k sayable is rows = (
 
 -- ---- `Qed`
 
-pub qed_refused : (old new : Running) (s : State) (p : Proof) (g : Goal) (d : Done) → Keeps old s → old.proof ≡ Some p → p.stage ≡ stage.Left g → d ≡ done.Refused (refusal GoalsRemain []) → IsAnswered [] (qed_rows s.proof) (qed_state s s.proof) new d
-qed_refused old new s p g d k e left is =
+pub qed_refused : (old : Running) (s : State) (p : Proof) (new : Running) (d : Done) → Keeps old s → old.proof ≡ Some p → ¬ (length p.goals ≡ 0) → d ≡ done.Refused (refusal GoalsRemain []) → new ≡ old → IsAnswered [] (qed_rows s.proof) (qed_state s s.proof) old new d
+qed_refused old s p new d k e left is same =
     let op = is_opened old s p e k in
-    let goals : g ∷ [] ≡ op.o.goals = sym (ap goals_of left) ∙ op.keeps.goals_are in
-    let some : ¬ (op.o.goals ≡ []) = λ none. absurd (let f : g ∷ [] ≡ [] = goals ∙ none in cc) in
-    refused_is [] (qed_rows s.proof) (qed_state s s.proof) new d GoalsRemain is (subst (λ (o : Option OpenProof). qed_rows o (Some GoalsRemain)) (sym op.is) (inl (some, refl)))
+    let some : ¬ (op.o.goals ≡ []) = λ none. left (sym (length-reverse p.goals) ∙ ap length (op.keeps.goals_are ∙ none)) in
+    refused_is [] (qed_rows s.proof) (qed_state s s.proof) old new d GoalsRemain is (subst (λ (o : Option OpenProof). qed_rows o (Some GoalsRemain)) (sym op.is) (inl (some, refl))) same
 
-pub qed_done : (old : Running) (s : State) (p : Proof) (place : ℕ) (names : List (List ℕ)) (derivation : Derivation) (lemmas : ℕ) (rest : Option Proof)
-    → Keeps old s → old.proof ≡ Some p → p.stage ≡ stage.Closed place → rest ≡ None → lemmas ≡ min (min (old.lemmas + 1) (2 ^ 64 - 1)) MAX_LEMMAS
-    → ((before : List Statement) → States old.derivation before → IsNew before p.name → States derivation (before ++ (record { name = p.name; formula = p.statement } ∷ [])))
-    → Adds old.names names p.name
-    → qed_rows s.proof None × Keeps (record { preds = old.preds; names = names; lemmas = lemmas; derivation = derivation; proof = rest }) (qed_state s s.proof)
-qed_done old s p place names derivation lemmas rest k e closed none count grows adds =
+-- the steps lead to no goal
+pub complete : (old : Running) (s : State) (p : Proof) → Keeps old s → old.proof ≡ Some p → length p.goals ≡ 0 → IsComplete p.steps.items
+complete old s p k e none =
     let op = is_opened old s p e k in
-    let goals : op.o.goals ≡ [] = sym op.keeps.goals_are ∙ ap goals_of closed in
-    let facts = new_qed s op.o op.is k.sound in
-    let table : qed_rows s.proof None = subst (λ (o : Option OpenProof). qed_rows o None) (sym op.is) (inr ((λ some. some goals), refl)) in (
-      table,
-      subst (λ (o : Option OpenProof). Keeps (record { preds = old.preds; names = names; lemmas = lemmas; derivation = derivation; proof = rest }) (qed_state s o)) (sym op.is) (record {
-        preds_are = k.preds_are;
-        names_are = λ n. adds.has n ∙ (ap₂ (λ b m. b || bytes_eq n m) (k.names_are n) op.keeps.name_is ∙ sym (names_proved s op.o n));
-        lemmas_are = let more = length-append s.lemmas (record { name = op.o.name; formula = op.o.statement } ∷ []) in let was = k.lemmas_are in omega (arith, count, more, was);
-        states = subst (λ (l : Statement). States derivation (s.lemmas ++ (l ∷ []))) (ap₂ (λ (n : List ℕ) (f : Formula). record { name = n; formula = f }) op.keeps.name_is op.keeps.statement_is) (grows s.lemmas k.states (subst (IsNew s.lemmas) (sym op.keeps.name_is) facts.0));
-        proof_is = subst (λ (q : Option Proof). KeepsProofs q None) (sym none) tt;
-        sound = sound_qed s op.o op.is k.sound;
+    let goals : op.o.goals ≡ [] = sym op.keeps.goals_are ∙ ap reverse (no_items p.goals none) in
+    (meaning (opening op.o.statement), subst (λ (gs : List Goal). Leads (meaning (opening op.o.statement) ∷ []) p.steps.items (map meaning gs)) goals op.keeps.leads)
+
+all_as : {A : Type 0} (P Q : A → Type 0) → ((x : A) → P x → Q x) → (xs : List A) → AllByRecursion P xs → AllByRecursion Q xs
+all_as P Q f [] all = tt
+all_as P Q f (x ∷ xs) all = (f x all.0, all_as P Q f xs all.1)
+
+-- the joined proof can be written behind the others
+proof_writable : (old : Running) (s : State) (p : Proof) (o : OpenProof) (t : Tree) (preds : Preds) → Keeps old s → s.proof ≡ Some o → KeepsProof (tables s) (conclusions old.proofs) p o → o.goals ≡ [] → Joins p.steps.items t → IsAmong (tables s) preds → IsWritable preds old.proofs (record { name = p.name; proof = t })
+unfolding star_onto
+proof_writable old s p o t preds k is keeps none joins among =
+    let facts = new_qed s o is k.sound in
+    let ss : List ProofStep = p.steps.items in
+    let known : List Entail = conclusions old.proofs in
+    let concl : conclusion t ≡ meaning (opening o.statement) = joins.concludes (meaning (opening o.statement)) (subst (λ (gs : List Goal). Leads (meaning (opening o.statement) ∷ []) ss (map meaning gs)) none keeps.leads) in
+    let scoped : IsScoped preds t = joins.scoped preds (all_as (IsSafe (tables s) known) (λ x. IsScoped preds x.proof) (λ x h. h.scoped preds among) ss keeps.safe) in
+    let deep : depth t ≤ MAX_LINE_LEVELS = joins.shallow MAX_LINE_LEVELS (all_as (IsSafe (tables s) known) (λ x. depth x.proof ≤ MAX_LINE_LEVELS) (λ x h. h.shallow) ss keeps.safe) in
+    let broad : variables t ≤ MAX_LINE_VARIABLES = joins.narrow MAX_LINE_VARIABLES (all_as (IsSafe (tables s) known) (λ x. variables x.proof ≤ MAX_LINE_VARIABLES) (λ x h. h.narrow) ss keeps.safe) in
+    let lemmas : AllByRecursion (AllByRecursion (IsOneOf known)) (used ss) = all_used (IsOneOf known) ss (all_as (IsSafe (tables s) known) (λ x. AllByRecursion (IsOneOf known) (lemmas_of x)) (λ x h. h.lemmas) ss keeps.safe) in
+    record {
+      named = subst (λ (n : List ℕ). IsTrue (is_name n)) (sym keeps.name_is) facts.1;
+      new = ap (is_stated (written_names old.proofs)) keeps.name_is ∙ ap (λ (ns : List (List ℕ)). is_stated ns o.name) (names_stated old.proofs ∙ ap (map (λ (l : Statement). l.name)) k.states) ∙ facts.0;
+      closed = ap (λ (e : Entail). e.vars) concl;
+      left = ap (λ (e : Entail). e.left) concl;
+      valid = joins.valid preds (all_as (IsSafe (tables s) known) (λ x. Valid preds x.proof) (λ x h. h.valid preds among) ss keeps.safe);
+      fits = scoped_fits preds t scoped deep broad;
+      holes = (subst (AllByRecursion (AllByRecursion (IsOneOf known))) joins.holes lemmas).0;
+    }
+
+pub qed_done : (old : Running) (s : State) (p : Proof) (new : Running)
+    → Keeps old s → old.proof ≡ Some p → length p.goals ≡ 0 → IsProved (record old { proof = None }) p new
+    → qed_rows s.proof None × Keeps new (qed_state s s.proof)
+qed_done old s p new k e none done =
+    let op = is_opened old s p e k in
+    let o : OpenProof = op.o in
+    let goals : o.goals ≡ [] = sym op.keeps.goals_are ∙ ap reverse (no_items p.goals none) in
+    let concl : conclusion done.proof ≡ meaning (opening o.statement) = done.joins.concludes (meaning (opening o.statement)) (subst (λ (gs : List Goal). Leads (meaning (opening o.statement) ∷ []) p.steps.items (map meaning gs)) goals op.keeps.leads) in
+    let x : Named = record { name = p.name; proof = done.proof } in
+    let says : statement_of x ≡ record { name = o.name; formula = o.statement } = ap₂ (λ (n : List ℕ) (f : Formula). record { name = n; formula = f }) op.keeps.name_is (ap (λ (e : Entail). e.right) concl) in (
+      subst (λ (q : Option OpenProof). qed_rows q None) (sym op.is) (inr ((λ some. some goals), refl)),
+      subst (λ (q : Option OpenProof). Keeps new (qed_state s q)) (sym op.is) (record {
+        preds_are = ap (λ (ps : Preds). ps.list) done.preds_are ∙ k.preds_are;
+        names_are = λ n. done.names_are.has n ∙ (ap₂ (λ b m. b || bytes_eq n m) (k.names_are n) op.keeps.name_is ∙ sym (names_proved s o n));
+        lemmas_are = let more = length-append s.lemmas (record { name = o.name; formula = o.statement } ∷ []) in let was = k.lemmas_are in let count = done.lemmas_are in omega (arith, count, more, was);
+        states = ap (map statement_of) done.proofs_are ∙ map_end statement_of old.proofs x ∙ ap₂ (λ (ls : List Statement) (l : Statement). ls ++ l ∷ []) k.states says;
+        writable = λ preds among. subst (AreWritable preds) (sym done.proofs_are) (each_more (IsWritable preds) old.proofs x (k.writable preds among) (proof_writable old s p o done.proof preds k op.is op.keeps goals done.joins among));
+        proof_is = subst (λ (q : Option Proof). KeepsProofs (tables s) (conclusions new.proofs) q None) (sym done.proof_is) tt;
+        sound = sound_qed s o op.is k.sound;
       }),
     )
 
 -- ---- directives
+
+-- the steps lead on
+steps_lead : (start : Entail) (ss : List ProofStep) (step : ProofStep) (goal : Goal) (rest more : List Goal) → Leads (start ∷ []) ss (map meaning (goal ∷ rest)) → conclusion step.proof ≡ meaning goal → holes_of step.proof ≡ map meaning more → step.goals ≡ length more → Leads (start ∷ []) (ss ++ step ∷ []) (map meaning (more ++ rest))
+steps_lead start ss step goal rest more leads concl holes count =
+    let all : goals_of step ≡ map meaning more = ap₂ take (count ∙ sym (length-map more meaning)) holes ∙ take_all (length (map meaning more)) (map meaning more) (omega arith) in
+    let enough : step.goals ≤ hole_count step.proof = omega (arith, count, counted step.proof, ap length holes, length-map more meaning) in
+    subst (Leads (start ∷ []) (ss ++ step ∷ [])) (ap (λ (es : List Entail). es ++ map meaning rest) all ∙ sym (map-append meaning more rest)) (leads_more (start ∷ []) ss step (meaning goal) (map meaning rest) leads concl enough)
+
+-- the new goals are left
+more_left : (on : Tables) (goal : Goal) (d : Step) → IsLeft on goal → step_rows goal d None → AllByRecursion (IsLeft on) (step_goals goal d)
+more_left on goal d left rows = go (step_goals goal d) (step_within goal d left.within rows) (λ preds among. step_scoped preds goal d (left.scoped preds among))
+  where
+    go : (gs : List Goal) → AllByRecursion IsWithin gs → ((preds : Preds) → IsAmong on preds → AllByRecursion (λ g. EntailScoped preds (meaning g)) gs) → AllByRecursion (IsLeft on) gs
+    go [] w s = tt
+    go (g ∷ gs) w s = (record { within = w.0; scoped = λ preds among. (s preds among).0 }, go gs w.1 (λ preds among. (s preds among).1))
+
+all_append : {A : Type 0} (P : A → Type 0) (xs ys : List A) → AllByRecursion P xs → AllByRecursion P ys → AllByRecursion P (xs ++ ys)
+all_append P [] ys all behind = behind
+all_append P (x ∷ xs) ys all behind = (all.0, all_append P xs ys all.1 behind)
+
+-- the step's proof is safe
+step_safe : (on : Tables) (known : List Entail) (goal : Goal) (d : Step) (step : ProofStep) → IsLeft on goal → AllByRecursion (IsLeft on) (step_goals goal d) → step.goals ≡ length (step_goals goal d) → Shows goal (map meaning (step_goals goal d)) step.proof → IsSafe on known step
+step_safe on known goal d step left more count shows =
+    let hs : List Entail = map meaning (step_goals goal d) in
+    record {
+      valid = λ preds among. shows.valid preds tt;
+      scoped = λ preds among. shows.scoped preds (left.scoped preds among) (mapped_scoped preds among (step_goals goal d) more);
+      shallow = omega (arith, shows.shallow, left_depth goal left.within, concl_depth goal left.within);
+      narrow = omega (arith, shows.narrow, left_depth goal left.within, concl_depth goal left.within, left.within.vars);
+      lemmas = subst (AllByRecursion (IsOneOf known)) (sym (ap₂ drop (count ∙ sym (length-map (step_goals goal d) meaning)) shows.holes ∙ drop-length hs)) tt;
+    }
+  where
+    mapped_scoped : (preds : Preds) → IsAmong on preds → (gs : List Goal) → AllByRecursion (IsLeft on) gs → AllByRecursion (EntailScoped preds) (map meaning gs)
+    mapped_scoped preds among [] all = tt
+    mapped_scoped preds among (g ∷ gs) all = (all.0.scoped preds among, mapped_scoped preds among gs all.1)
 
 module _ (old : Running) (s : State) (p : Proof) (d : Step) (k : Keeps old s) (e : old.proof ≡ Some p) where
   the_proof : IsOpen old s p
@@ -167,72 +334,92 @@ module _ (old : Running) (s : State) (p : Proof) (d : Step) (k : Keeps old s) (e
   abbrev o : OpenProof
   o = the_proof.o
 
-  pub directive_moved : (t : Stage) (count : ℕ) → count ≡ p.count + introduces d → StageStepped p.stage d (stepped.Moved t)
-      → directive_rows s.proof d None × Keeps (record { preds = old.preds; names = old.names; lemmas = old.lemmas; derivation = old.derivation; proof = Some (record { name = p.name; statement = p.statement; count = count; stage = t }) }) (directive_state s s.proof d)
-  directive_moved t count counts moved = (
-    subst (λ (x : Option OpenProof). directive_rows x d None) (sym the_proof.is) (rows p.stage refl moved),
-    subst (λ (x : Option OpenProof). Keeps (record { preds = old.preds; names = old.names; lemmas = old.lemmas; derivation = old.derivation; proof = Some (record { name = p.name; statement = p.statement; count = count; stage = t }) }) (directive_state s x d)) (sym the_proof.is) (record {
+  pub goals_within : AreWithin (reverse p.goals)
+  goals_within = subst AreWithin (sym the_proof.keeps.goals_are) (all_within (tables s) o.goals the_proof.keeps.left)
+
+  -- what the row that was found says of the state
+  pub row_found : (row : Option Row) → goal_rows (reverse p.goals) d row → directive_rows s.proof d row
+  row_found row rows = subst (λ (x : Option OpenProof). directive_rows x d row) (sym the_proof.is) (subst (λ (gs : List Goal). goal_rows gs d row) the_proof.keeps.goals_are rows)
+
+  pub directive_moved : (q : Proof) → goal_rows (reverse p.goals) d None → IsStepped p d q
+      → directive_rows s.proof d None × Keeps (record { preds = old.preds; names = old.names; lemmas = old.lemmas; proofs = old.proofs; proof = Some q }) (directive_state s s.proof d)
+  directive_moved q rows stepped = (
+    row_found None rows,
+    subst (λ (x : Option OpenProof). Keeps (record { preds = old.preds; names = old.names; lemmas = old.lemmas; proofs = old.proofs; proof = Some q }) (directive_state s x d)) (sym the_proof.is) (record {
       preds_are = k.preds_are;
       names_are = k.names_are;
       lemmas_are = k.lemmas_are;
       states = k.states;
-      proof_is = record { name_is = the_proof.keeps.name_is; statement_is = the_proof.keeps.statement_is; goals_are = goals p.stage refl moved; fits = subst (λ n. StageFits p.statement n t) (sym counts) (fits p.stage the_proof.keeps.fits moved) };
+      writable = k.writable;
+      proof_is = kept_step;
       sound = sound_step s o (new_goals o.goals d) the_proof.is k.sound;
     }),
   )
     where
-      rows : (u : Stage) → p.stage ≡ u → StageStepped u d (stepped.Moved t) → goal_rows o.goals d None
-      rows (stage.Left g) at m = subst (λ gs. goal_rows gs d None) (sym (ap goals_of at) ∙ the_proof.keeps.goals_are) m.no_row
-      rows (stage.Closed place) at m = absurd cc
+      on : Tables
+      on = tables s
 
-      goals : (u : Stage) → p.stage ≡ u → StageStepped u d (stepped.Moved t) → goals_of t ≡ new_goals o.goals d
-      goals (stage.Left g) at m = m.goals ∙ (sym (append-nil (step_goals g d)) ∙ ap (λ gs. new_goals gs d) (sym (ap goals_of at) ∙ the_proof.keeps.goals_are))
-      goals (stage.Closed place) at m = absurd cc
+      goals : o.goals ≡ stepped.goal ∷ stepped.rest
+      goals = sym the_proof.keeps.goals_are ∙ stepped.first_is
 
-      fits : (u : Stage) → StageFits p.statement p.count u → StageStepped u d (stepped.Moved t) → StageFits p.statement (p.count + introduces d) t
-      fits (stage.Left g) f m = m.fits p.statement p.count f
-      fits (stage.Closed place) f m = absurd cc
+      left : AllByRecursion (IsLeft (tables s)) (stepped.goal ∷ stepped.rest)
+      left = subst (AllByRecursion (IsLeft (tables s))) goals the_proof.keeps.left
 
-  pub directive_is_refused : (row : Row) → StageStepped p.stage d (stepped.Refused row) → directive_rows s.proof d (Some row)
-  directive_is_refused row refused = subst (λ (x : Option OpenProof). directive_rows x d (Some row)) (sym the_proof.is) (go p.stage refl refused)
-    where
-      go : (u : Stage) → p.stage ≡ u → StageStepped u d (stepped.Refused row) → goal_rows o.goals d (Some row)
-      go (stage.Left g) at m = subst (λ gs. goal_rows gs d (Some row)) (sym (ap goals_of at) ∙ the_proof.keeps.goals_are) m
-      go (stage.Closed place) at m = subst (λ gs. goal_rows gs d (Some row)) (sym (ap goals_of at) ∙ the_proof.keeps.goals_are) (let same : row ≡ NoGoalInFocus = cc in ap Some same)
+      no_row : step_rows stepped.goal d None
+      no_row = subst (λ (gs : List Goal). goal_rows gs d None) stepped.first_is rows
+
+      more : AllByRecursion (IsLeft (tables s)) (step_goals stepped.goal d)
+      more = more_left (tables s) stepped.goal d left.0 no_row
+
+      news : new_goals o.goals d ≡ step_goals stepped.goal d ++ stepped.rest
+      news = ap (λ (gs : List Goal). new_goals gs d) goals
+
+      kept_step : KeepsProof (tables s) (conclusions old.proofs) q (record o { goals = new_goals o.goals d })
+      kept_step = record {
+        name_is = stepped.name_is ∙ the_proof.keeps.name_is;
+        statement_is = stepped.statement_is ∙ the_proof.keeps.statement_is;
+        goals_are = stepped.goals_are ∙ ap (λ (gs : List Goal). new_goals gs d) the_proof.keeps.goals_are;
+        leads = subst (λ (ss : List ProofStep). Leads (meaning (opening o.statement) ∷ []) ss (map meaning (new_goals o.goals d))) (sym stepped.steps_are)
+            (subst (λ (gs : List Goal). Leads (meaning (opening o.statement) ∷ []) (p.steps.items ++ stepped.step ∷ []) (map meaning gs)) (sym news)
+            (steps_lead (meaning (opening o.statement)) p.steps.items stepped.step stepped.goal stepped.rest (step_goals stepped.goal d) (subst (λ (gs : List Goal). Leads (meaning (opening o.statement) ∷ []) p.steps.items (map meaning gs)) goals the_proof.keeps.leads) stepped.shows.concludes stepped.shows.holes stepped.count_is));
+        safe = subst (AllByRecursion (IsSafe (tables s) (conclusions old.proofs))) (sym stepped.steps_are)
+            (all_append (IsSafe (tables s) (conclusions old.proofs)) p.steps.items (stepped.step ∷ []) the_proof.keeps.safe (step_safe (tables s) (conclusions old.proofs) stepped.goal d stepped.step left.0 more stepped.count_is stepped.shows, tt));
+        left = subst (AllByRecursion (IsLeft (tables s))) (sym news) (all_append (IsLeft (tables s)) (step_goals stepped.goal d) stepped.rest more left.1);
+      }
 
 -- ---- whole sentences
 
 -- a sentence whose table and new state these are
-pub does_by : (s : State) (x : Sentence) (name : List ℕ) (table : Table) (state : State) (new : Running) (d : Done) → ((a : Answer) → Answers name table state a → Does s x a) → IsAnswered name table state new d → IsDoing s x new d
-does_by s x name table state new d f h = let e = doing name table state new d h in record { answer = e.0; does = f e.0 e.1; is_done = e.2 }
+pub does_by : (s : State) (x : Sentence) (name : List ℕ) (table : Table) (state : State) (old new : Running) (d : Done) → ((a : Answer) → Answers name table state a → Does s x a) → IsAnswered name table state old new d → IsDoing s x old new d
+does_by s x name table state old new d f h = let e = doing name table state old new d h in record { answer = e.0; does = f e.0 e.1; is_done = e.2 }
 
-pub does_predicate : (s : State) (name : List ℕ) (params : List (List ℕ)) (body : Formula) (new : Running) (d : Done) → IsAnswered name (predicate_rows s name params body) (with_predicate s name params body) new d → IsDoing s (sentence.Predicate name params body) new d
+pub does_predicate : (s : State) (name : List ℕ) (params : List (List ℕ)) (body : Formula) (old new : Running) (d : Done) → IsAnswered name (predicate_rows s name params body) (with_predicate s name params body) old new d → IsDoing s (sentence.Predicate name params body) old new d
 unfolding Does
-does_predicate s name params body new d h = does_by s (sentence.Predicate name params body) name (predicate_rows s name params body) (with_predicate s name params body) new d (λ a x. x) h
+does_predicate s name params body old new d h = does_by s (sentence.Predicate name params body) name (predicate_rows s name params body) (with_predicate s name params body) old new d (λ a x. x) h
 
-pub does_lemma : (s : State) (name : List ℕ) (statement : Formula) (new : Running) (d : Done) → IsAnswered name (lemma_rows s name statement) (opened s name statement) new d → IsDoing s (sentence.Lemma name statement) new d
+pub does_lemma : (s : State) (name : List ℕ) (statement : Formula) (old new : Running) (d : Done) → IsAnswered name (lemma_rows s name statement) (opened s name statement) old new d → IsDoing s (sentence.Lemma name statement) old new d
 unfolding Does
-does_lemma s name statement new d h = does_by s (sentence.Lemma name statement) name (lemma_rows s name statement) (opened s name statement) new d (λ a x. x) h
+does_lemma s name statement old new d h = does_by s (sentence.Lemma name statement) name (lemma_rows s name statement) (opened s name statement) old new d (λ a x. x) h
 
-pub does_proof : (s : State) (new : Running) (d : Done) → IsAnswered [] (proof_rows s) s new d → IsDoing s sentence.Proof new d
+pub does_proof : (s : State) (old new : Running) (d : Done) → IsAnswered [] (proof_rows s) s old new d → IsDoing s sentence.Proof old new d
 unfolding Does
-does_proof s new d h = does_by s sentence.Proof [] (proof_rows s) s new d (λ a x. x) h
+does_proof s old new d h = does_by s sentence.Proof [] (proof_rows s) s old new d (λ a x. x) h
 
-pub does_qed : (s : State) (new : Running) (d : Done) → IsAnswered [] (qed_rows s.proof) (qed_state s s.proof) new d → IsDoing s sentence.Qed new d
+pub does_qed : (s : State) (old new : Running) (d : Done) → IsAnswered [] (qed_rows s.proof) (qed_state s s.proof) old new d → IsDoing s sentence.Qed old new d
 unfolding Does
-does_qed s new d h = does_by s sentence.Qed [] (qed_rows s.proof) (qed_state s s.proof) new d (λ a x. x) h
+does_qed s old new d h = does_by s sentence.Qed [] (qed_rows s.proof) (qed_state s s.proof) old new d (λ a x. x) h
 
-pub does_directive : (old new : Running) (x : Directive) (d : Done) → DirectsIf old (step_of x) new d → (s : State) → Keeps old s → IsDoing s (sentence.Directive x) new d
+pub does_directive : (old new : Running) (x : Directive) (d : Done) → DirectsIf old (step_of x) new d → (s : State) → Keeps old s → IsDoing s (sentence.Directive x) old new d
 unfolding Does
 does_directive old new x d h s k = go (step_of x) refl h
   where
-    go : (o : Option Step) → step_of x ≡ o → DirectsIf old o new d → IsDoing s (sentence.Directive x) new d
+    go : (o : Option Step) → step_of x ≡ o → DirectsIf old o new d → IsDoing s (sentence.Directive x) old new d
     go None e h = record { answer = unbuilt; does = subst (λ (o : Option Step). runs.Directs s o unbuilt) (sym e) refl; is_done = h }
-    go (Some step) e h = does_by s (sentence.Directive x) (step_name step) (directive_rows s.proof step) (directive_state s s.proof step) new d (λ a y. subst (λ (o : Option Step). runs.Directs s o a) (sym e) y) (h s k)
+    go (Some step) e h = does_by s (sentence.Directive x) (step_name step) (directive_rows s.proof step) (directive_state s s.proof step) old new d (λ a y. subst (λ (o : Option Step). runs.Directs s o a) (sym e) y) (h s k)
 
 -- a sentence that isn't built
-pub does_nothing : (s : State) (x : Sentence) (new : Running) → Does s x unbuilt → IsDoing s x new done.Unbuilt
-does_nothing s x new h = record { answer = unbuilt; does = h; is_done = refl }
+pub does_nothing : (s : State) (x : Sentence) (old new : Running) → Does s x unbuilt → IsDoing s x old new done.Unbuilt
+does_nothing s x old new h = record { answer = unbuilt; does = h; is_done = refl }
 
 pub not_built : (s : State) (x : Sentence) → (x ≡ sentence.Abort) ⊎ ((x ≡ sentence.Restart) ⊎ ((x ≡ sentence.Show) ⊎ (((n : ℕ) × (x ≡ sentence.Undo n)) ⊎ ((x ≡ sentence.Enter) ⊎ (x ≡ sentence.Leave))))) → Does s x unbuilt
 unfolding Does

@@ -1,3 +1,9 @@
+pub mod Shifted
+pub mod Advances
+pub mod Growing
+pub mod Meanings
+pub mod Arrowing
+pub mod Boxed
 pub mod Lasts
 pub mod Steppings
 pub mod RowTests

@@ -1,15 +1,18 @@
 -- How the code of a whole script goes from sentence to sentence.
-use Rattle.std.proofs.Common.{◌≡◌, ◌⊎◌, inl, inr, ℕ, ◌+◌, ◌≤◌, true, false, List, [], ◌∷◌, ◌++◌, length, take, drop, get_or, ap₂, ◌-◌, refl, sym, ◌∙◌, ap, subst, arith, Option, Some, None}
+use Rattle.std.proofs.Common.{◌≡◌, ◌⊎◌, inl, inr, ℕ, ◌+◌, ◌≤◌, true, false, List, [], ◌∷◌, ◌++◌, length, map, option_map, take, drop, get_or, ap₂, ◌-◌, refl, sym, ◌∙◌, ap, subst, arith, Option, Some, None}
 use Rattle.std.specs.Prelude.{is_some, reverse, Ok, Err}
 use Rattle.std.proofs.Math.Seq.{drop-length, drop-append_seam}
-use Rattle.std.proofs.lemmas.List.{append-nil, length-map, take_all}
-use Rattle.pm_logic.specs.declared.limits.TheConstants.{MAX_TABLE}
+use Rattle.std.proofs.lemmas.List.{append-nil, length-map, length-reverse, take_all}
+use Rattle.std.specs.List.{AllByRecursion}
+use Rattle.pm_logic.specs.declared.limits.TheConstants.{MAX_NAMES, MAX_TABLE}
 use Rattle.pm_logic.specs.declared.formula.Formula.{Formula}
 use Rattle.pm_logic.specs.declared.formula.Pred.{Pred}
 use Rattle.pm_check.specs.declared.checked.Statement.{Statement}
 use Rattle.pm_check.specs.Derivation.{IsDerivation}
 use Rattle.pm_check.specs.Table.{BeginsTable}
-use Rattle.pm_derive.specs.Stating.{AreOver, States}
+use Rattle.pm_write.specs.Derived.{statement_of, conclusions, AreWritable}
+use Rattle.pm_proof.specs.Known.{Tables}
+use Rattle.pm_rules.specs.declared.rules.Entail.{Entail}
 use Rattle.pm_dtext.specs.Texts.{arities_of}
 use Rattle.pm_goal.specs.declared.goal.Goal.{Goal}
 use Rattle.pm_terms.specs.declared.fault.TextFault.{TextFault}
@@ -26,8 +29,6 @@ use Rattle.pm_cutter.specs.Spans.{part_of, parts_of, end_from}
 use Rattle.pm_script.specs.declared.sentence.Sentence.{Sentence}
 use Rattle.pm_script.specs.SentenceReading.{read_sentence}
 use Rattle.pm_run.proofs.Sayable.{sayable}
-use Rattle.pm_run.specs.declared.proof.Stage.{Stage}
-use Rattle.pm_run.specs.declared.proof.Stage.TheVariants as stage
 use Rattle.pm_run.specs.declared.proof.Proof.{Proof}
 use Rattle.pm_run.specs.declared.ran.Ran.{Ran}
 use Rattle.pm_run.specs.declared.ran.Ran.TheVariants as ran
@@ -37,30 +38,26 @@ use Rattle.pm_run.specs.declared.running.Done.{Done}
 use Rattle.pm_run.specs.declared.running.Done.TheVariants as done
 use Rattle.pm_run.specs.declared.script.Stop.{Stop}
 use Rattle.pm_run.specs.declared.script.Stop.TheVariants as stop
-use Rattle.pm_run.specs.Stepping.{StageFits, goals_of}
 use Rattle.pm_run.specs.Runs.{OpenProof, State, start, scope, scope_by, Answer, moves, refuses, unbuilt, Does, Outcome, accepted, refused, unreadable, RunsFrom, does_not_read, is_unbuilt, is_refused, goes_on, is_cut_off, ends_inside, ends}
-use Rattle.pm_run.specs.Keeping.{Keeps, KeepsProofs, IsKept, IsDone, DoesSentence}
+use Rattle.pm_run.specs.Keeping.{Keeps, IsLeft, KeepsProofs, tables, scope_of, IsKept, IsDone, DoesSentence}
+use Rattle.pm_run.proofs.Doings.{kept_open}
 use Rattle.pm_run.specs.Coming.{limit, ComesTo}
 use Rattle.pm_run.specs.Looping.{outcome, stop_of, stopped, Goes, AtSpan, AtSpans, LeadsTo, IsShort, AreShort, ComesFrom, end_parts, end_rest, Ends, EndsWith, EndIsShort, IsCut}
 
 -- ---- what a state that is kept tells
 
-stage_scope : (statement : Formula) (count : ℕ) (g : Stage) (o : OpenProof) → goals_of g ≡ o.goals → StageFits statement count g → scope_by (Some o) ≡ []
-stage_scope statement count (stage.Left g) o e fits = ap (λ (gs : List Goal). scope_by (Some (record o { goals = gs }))) (sym e) ∙ ap reverse fits.spatial.vars
-stage_scope statement count (stage.Closed place) o e fits = ap (λ (gs : List Goal). scope_by (Some (record o { goals = gs }))) (sym e)
+-- the names that the code and the state have in scope are the same
+scope_same : (on : Tables) (known : List Entail) (p : Option Proof) (o : Option OpenProof) → KeepsProofs on known p o → scope_by (option_map (λ (q : Proof). record { name = q.name; statement = q.statement; goals = reverse q.goals }) p) ≡ scope_by o
+scope_same on known None None k = refl
+scope_same on known (Some p) (Some o) k = ap (λ (gs : List Goal). scope_by (Some (record o { goals = gs }))) k.goals_are
+scope_same on known None (Some o) k = absurd k
+scope_same on known (Some p) None k = absurd k
 
--- goals have no variables
-no_scope : (p : Option Proof) (o : Option OpenProof) → KeepsProofs p o → scope_by o ≡ []
-no_scope None None h = refl
-no_scope (Some p) (Some o) h = stage_scope p.statement p.count p.stage o h.goals_are h.fits
-no_scope None (Some o) h = absurd h
-no_scope (Some p) None h = absurd h
+pub scope_is : (r : Running) (s : State) → Keeps r s → scope_of r ≡ scope s
+scope_is r s k = scope_same (tables s) (conclusions r.proofs) r.proof s.proof k.proof_is
 
-same_open : (p : Option Proof) (o : Option OpenProof) → KeepsProofs p o → is_some o ≡ is_some p
-same_open None None h = refl
-same_open (Some p) (Some o) h = refl
-same_open None (Some o) h = absurd h
-same_open (Some p) None h = absurd h
+kept_closed : (r : Running) (s : State) → Keeps r s → is_some s.proof ≡ is_some r.proof
+kept_closed r s k = sym (kept_open r s k)
 
 pub table_kept : (r : Running) → IsKept r → BeginsTable (arities_of r.preds.list) r.preds.list
 table_kept r k = subst (λ (qs : List Pred). BeginsTable (arities_of qs) qs) (sym k.kept.preds_are) k.kept.sound.table_begins
@@ -68,30 +65,44 @@ table_kept r k = subst (λ (qs : List Pred). BeginsTable (arities_of qs) qs) (sy
 pub few_preds : (r : Running) → IsKept r → length r.preds.list ≤ MAX_TABLE
 few_preds r k = let few = (table_kept r k).fit.0 in let l : length (arities_of r.preds.list) ≡ length r.preds.list = length-map r.preds.list (λ (q : Pred). q.arity) in omega (arith, few, l)
 
+-- few names are in scope
+few_by : (on : Tables) (known : List Entail) (p : Option Proof) (o : Option OpenProof) → KeepsProofs on known p o → length (scope_by o) ≤ 64
+few_by on known None None k = omega arith
+few_by on known (Some p) (Some o) k = go o.goals k.left
+  where
+    go : (gs : List Goal) → AllByRecursion (IsLeft on) gs → length (scope_by (Some (record o { goals = gs }))) ≤ 64
+    go [] all = omega arith
+    go (g ∷ gs) all = omega (arith, length-reverse g.vars, all.0.within.vars)
+few_by on known None (Some o) k = absurd k
+few_by on known (Some p) None k = absurd k
+
+pub few_names : (r : Running) → IsKept r → length (scope_of r) ≤ MAX_NAMES
+few_names r k = omega (arith, ap length (scope_is r k.state k.kept), few_by (tables k.state) (conclusions r.proofs) r.proof k.state.proof k.kept.proof_is)
+
 -- ---- a sentence
 
-read_here : (r : Running) (s : State) (base : ℕ) (text : List ℕ) → Keeps r s → read_sentence base s.preds (scope s) text ≡ read_sentence base r.preds.list [] text
-read_here r s base text k = ap (λ (ns : Names). read_sentence base s.preds ns text) (no_scope r.proof s.proof k.proof_is) ∙ ap (λ (qs : List Pred). read_sentence base qs [] text) (sym k.preds_are)
+read_here : (r : Running) (s : State) (base : ℕ) (text : List ℕ) → Keeps r s → read_sentence base s.preds (scope s) text ≡ read_sentence base r.preds.list (scope_of r) text
+read_here r s base text k = ap (λ (ns : Names). read_sentence base s.preds ns text) (sym (scope_is r s k)) ∙ ap (λ (qs : List Pred). read_sentence base qs (scope_of r) text) (sym k.preds_are)
 
-pub unread_span : (old : Running) (n : ℕ) (span : Span) (new : Running) (f : TextFault) → read_sentence span.offset old.preds.list [] span.text ≡ Err f → AtSpan old n span new (Some (stop.Unreadable f))
+pub unread_span : (old : Running) (n : ℕ) (span : Span) (new : Running) (f : TextFault) → read_sentence span.offset old.preds.list (scope_of old) span.text ≡ Err f → AtSpan old n span new (Some (stop.Unreadable f))
 unread_span old n span new f e = λ s k size left more. does_not_read (part_of span) (read_here old s span.offset span.text k ∙ e)
 
-answered : (n : ℕ) (s : State) (p : Part) (x : Sentence) (new : Running) (d : Done) (a : Answer) → read_sentence p.offset s.preds (scope s) p.text ≡ Ok x → Does s x a → IsDone new a d → Goes n s (p ∷ []) new (n + 1) (stop_of n p d)
-answered n s p x new done.Moved (moves t) e does h = record { state = t; kept = h.1; leads = λ size left more o run. goes_on p x t e does run }
-answered n s p x new done.Moved (refuses q) e does h = absurd (cc h)
-answered n s p x new done.Moved unbuilt e does h = absurd (cc h)
-answered n s p x new (done.Refused r) (moves t) e does h = absurd (cc h.0)
-answered n s p x new (done.Refused r) (refuses q) e does h = let same : q ≡ r = cc h in λ size left more. is_refused p x e (subst (λ q. Does s x (refuses q)) same does)
-answered n s p x new (done.Refused r) unbuilt e does h = absurd (cc h)
-answered n s p x new done.Unbuilt (moves t) e does h = absurd (cc h.0)
-answered n s p x new done.Unbuilt (refuses q) e does h = absurd (cc h)
-answered n s p x new done.Unbuilt unbuilt e does h = λ size left more. is_unbuilt p x e does
+answered : (n : ℕ) (s : State) (p : Part) (x : Sentence) (old new : Running) (d : Done) (a : Answer) → read_sentence p.offset s.preds (scope s) p.text ≡ Ok x → Does s x a → IsDone old new a d → Goes n s (p ∷ []) new (n + 1) (stop_of n p d)
+answered n s p x old new done.Moved (moves t) e does h = record { state = t; kept = h.1; leads = λ size left more o run. goes_on p x t e does run }
+answered n s p x old new done.Moved (refuses q) e does h = absurd (cc h.0)
+answered n s p x old new done.Moved unbuilt e does h = absurd (cc h)
+answered n s p x old new (done.Refused r) (moves t) e does h = absurd (cc h.0)
+answered n s p x old new (done.Refused r) (refuses q) e does h = let same : q ≡ r = cc h.0 in λ size left more. is_refused p x e (subst (λ q. Does s x (refuses q)) same does)
+answered n s p x old new (done.Refused r) unbuilt e does h = absurd (cc h)
+answered n s p x old new done.Unbuilt (moves t) e does h = absurd (cc h.0)
+answered n s p x old new done.Unbuilt (refuses q) e does h = absurd (cc h.0)
+answered n s p x old new done.Unbuilt unbuilt e does h = λ size left more. is_unbuilt p x e does
 
-pub done_span : (old : Running) (n : ℕ) (span : Span) (x : Sentence) (new : Running) (d : Done) → read_sentence span.offset old.preds.list [] span.text ≡ Ok x → DoesSentence old x new d → AtSpan old n span new (stop_of n (part_of span) d)
+pub done_span : (old : Running) (n : ℕ) (span : Span) (x : Sentence) (new : Running) (d : Done) → read_sentence span.offset old.preds.list (scope_of old) span.text ≡ Ok x → DoesSentence old x new d → AtSpan old n span new (stop_of n (part_of span) d)
 done_span old n span x new d e does = λ s k.
     let here = read_here old s span.offset span.text k ∙ e in
     let doing = does s k (sayable s span.offset (scope s) span.text x here) in
-    answered n s (part_of span) x new d doing.answer here doing.does doing.is_done
+    answered n s (part_of span) x old new d doing.answer here doing.does doing.is_done
 
 -- ---- sentences one after another
 
@@ -116,14 +127,18 @@ turn_kept old r new n m k spans left tail span is next kept short leads turn =
 -- ---- ends
 
 pub ends_open : (r : Running) (n size : ℕ) → is_some r.proof ≡ true → Ends r n size clean (ran.Refused n size (record { row = GoalsRemain; name = None }))
-ends_open r n size e = λ s k. ends_inside refl (same_open r.proof s.proof k.proof_is ∙ e)
+ends_open r n size e = λ s k. ends_inside refl (kept_closed r s k ∙ e)
 
-pub ends_clean : (r : Running) (n size : ℕ) (text : List ℕ) → is_some r.proof ≡ false → ((statements : List Statement) → States r.derivation statements → AreOver r.preds statements → IsDerivation text r.preds statements) → Ends r n size clean (ran.Accepted text)
+-- what is kept of the proofs tells that they can be written down
+pub kept_writable : (r : Running) → IsKept r → AreWritable r.preds r.proofs
+kept_writable r k = k.kept.writable r.preds ([], k.kept.preds_are ∙ sym (append-nil k.state.preds))
+
+pub ends_clean : (r : Running) (n size : ℕ) (text : List ℕ) → is_some r.proof ≡ false → IsDerivation text r.preds (map statement_of r.proofs) → Ends r n size clean (ran.Accepted text)
 ends_clean r n size text e written = λ s k. record {
   preds = r.preds;
   lemmas = s.lemmas;
-  runs = subst (λ (qs : List Pred). RunsFrom size None n s [] (accepted qs s.lemmas)) (sym k.preds_are) (ends refl (same_open r.proof s.proof k.proof_is ∙ e));
-  derivation = written s.lemmas k.states (subst (λ (qs : List Pred). AreOver (record { list = qs }) s.lemmas) (sym k.preds_are) k.sound.lemmas_over);
+  runs = subst (λ (qs : List Pred). RunsFrom size None n s [] (accepted qs s.lemmas)) (sym k.preds_are) (ends refl (kept_closed r s k ∙ e));
+  derivation = subst (IsDerivation text r.preds) k.states written;
 }
 
 pub ends_rest : (r : Running) (n size at : ℕ) → Ends r n size (end_from (ended.Rest at)) (ran.Unreadable (Unexpected at))

@@ -8,12 +8,11 @@ use Rattle.pm_logic.specs.declared.formula.Pred.{Pred}
 use Rattle.pm_logic.specs.Scope.{body_of}
 use Rattle.pm_logic.specs.Guard.{CallsBelow}
 use Rattle.pm_logic.specs.Size.{nodes_of, depth_of}
-use Rattle.pm_goal.specs.declared.goal.Goal.{Goal}
 use Rattle.pm_goal.specs.declared.refusal.Row.{Row}
 use Rattle.pm_goal.specs.declared.refusal.Row.TheVariants.{ProofIsOpen, NameIsDefined, NotGuarded, TooManyVariables, TooManyNodes, TooDeep, TooManyPredicates, TooManyLemmas}
-use Rattle.pm_run.specs.Rows.{Table, when, row_if, no_row, when_large}
+use Rattle.pm_run.specs.Rows.{Table, when, row_if, size_row, no_row, when_large}
 use Rattle.pm_run.specs.Runs.{State, is_open, is_used, opening, predicate_rows, lemma_rows}
-use Rattle.pm_run.proofs.Steppings.{row_is, row_where, row_above}
+use Rattle.pm_run.proofs.Steppings.{row_is, row_where, row_above, large_rows}
 
 body_last : (qs : List Pred) (q : Pred) → body_of (qs ++ q ∷ []) (length qs) ≡ q.body
 body_last [] q = refl
@@ -61,13 +60,13 @@ module _ (s : State) (q : Pred) (name : List ℕ) (params : List (List ℕ)) whe
       (subst (λ (b : Bool). predicate_rows s name params q.body (row_if b ProofIsOpen named)) (sym opens)
       (row_where (is_open s) ProofIsOpen named (when (IsTrue (is_used s name)) NameIsDefined guarded_table) (subst (λ (o : Option Row). when (IsTrue (is_used s name)) NameIsDefined (when (¬ CallsBelow (length s.preds) q.body) NotGuarded (when (MAX_PREDICATES ≤ length s.preds) TooManyPredicates (when (MAX_VARIABLES < length params) TooManyVariables tail))) o) (sym (n ∙ ap (λ b. row_if b NameIsDefined free) uses)) (row_where (is_used s name) NameIsDefined free guarded_table t7))))
 
-pub lemma_row_is : (s : State) (name : List ℕ) (statement : Formula) (goal : Goal) (open_proof used : Bool) (count : ℕ) (large many named result : Option Row)
-    → goal ≡ opening statement → open_proof ≡ is_open s → used ≡ is_used s name → count ≡ min (length s.lemmas) MAX_LEMMAS
-    → when_large goal (λ answer. answer ≡ None) large → many ≡ row_if (nat_le MAX_LEMMAS count) TooManyLemmas large → named ≡ row_if used NameIsDefined many → result ≡ row_if open_proof ProofIsOpen named
+pub lemma_row_is : (s : State) (name : List ℕ) (statement : Formula) (open_proof used : Bool) (count all deepest : ℕ) (large many named result : Option Row)
+    → all ≡ min (nodes_of statement) (2 ^ 64 - 1) → deepest ≡ min (depth_of statement) (2 ^ 32 - 1) → open_proof ≡ is_open s → used ≡ is_used s name → count ≡ min (length s.lemmas) MAX_LEMMAS
+    → large ≡ size_row 0 0 all deepest None → many ≡ row_if (nat_le MAX_LEMMAS count) TooManyLemmas large → named ≡ row_if used NameIsDefined many → result ≡ row_if open_proof ProofIsOpen named
     → lemma_rows s name statement result
-lemma_row_is s name statement goal open_proof used count large many named result goals opens uses counts w m n r =
+lemma_row_is s name statement open_proof used count all deepest large many named result nodes levels opens uses counts w m n r =
     let sizes : Table = when_large (opening statement) no_row in
-    let t0 : sizes large = subst (λ (g : Goal). when_large g no_row large) goals w in
+    let t0 : sizes large = large_rows (opening statement) None all deepest (omega (arith, nodes)) (omega (arith, levels)) 0 0 large refl refl w in
     let t7 : when (MAX_LEMMAS ≤ length s.lemmas) TooManyLemmas sizes many = subst (when (MAX_LEMMAS ≤ length s.lemmas) TooManyLemmas sizes) (sym m) (row_is (nat_le MAX_LEMMAS count) (MAX_LEMMAS ≤ length s.lemmas) TooManyLemmas sizes large (λ e. let le : MAX_LEMMAS ≤ count = grind (arith, nat_tests, e) in omega (arith, le, counts)) (λ e. λ le. let more : MAX_LEMMAS ≤ count = omega (arith, le, counts) in grind (arith, nat_tests, e, more)) t0) in
     subst (lemma_rows s name statement) (sym r)
     (subst (λ (b : Bool). lemma_rows s name statement (row_if b ProofIsOpen named)) (sym opens)

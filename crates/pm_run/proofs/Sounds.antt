@@ -5,7 +5,7 @@ use Rattle.std.proofs.lemmas.Slice.Eq.{bytes_eq-Decides}
 use Rattle.std.specs.Prelude.{IsTrue, is_some, not}
 use Rattle.std.specs.Bool.{Decides}
 use Rattle.pm_run.proofs.Decisions.{calls_below, decides_below}
-use Rattle.pm_derive.proofs.Lawful.{tables_are_grown}
+use Rattle.pm_run.proofs.Growing.{range_kept}
 use Rattle.std.specs.List.{AllByRecursion, list_any}
 use Rattle.std.specs.Str.{bytes_eq}
 use Rattle.pm_logic.specs.declared.limits.TheConstants.{MAX_LEVELS, MAX_PREDICATES, MAX_VARIABLES}
@@ -21,7 +21,6 @@ use Rattle.pm_check.specs.declared.checked.Statement.{Statement}
 use Rattle.pm_check.specs.Lines.{is_used as is_stated}
 use Rattle.pm_check.specs.Table.{BeginsTable}
 use Rattle.pm_check.proofs.Tables.{table_none, table_more}
-use Rattle.pm_derive.specs.Stating.{IsNew}
 use Rattle.pm_goal.specs.declared.goal.Goal.{Goal}
 use Rattle.pm_script.specs.declared.sentence.Sentence.TheVariants as sentence
 use Rattle.pm_goal.specs.declared.refusal.Row.{Row}
@@ -31,7 +30,7 @@ use Rattle.pm_run.specs.Keeping.{IsProvable, ProofIsSound, IsSound, IsSayable}
 -- ---- tests
 
 -- where a table answers no row, its first condition fails and the others answer none
-none_when : {P A : Type 0} {row : Row} → P × (None ≡ Some row) ⊎ (¬ P) × A → (¬ P) × A
+pub none_when : {P A : Type 0} {row : Row} → P × (None ≡ Some row) ⊎ (¬ P) × A → (¬ P) × A
 none_when (inl x) = absurd (cc x.1)
 none_when (inr x) = x
 
@@ -76,7 +75,7 @@ pred_more arities more names q fits = record {
   named = fits.named;
   new = fits.new;
   arity = arity_more arities more (length names) q.arity fits.arity;
-  body = record { in_range = tables_are_grown.formula arities more q.arity q.body fits.body.in_range; levels = fits.body.levels };
+  body = record { in_range = range_kept arities more q.arity q.body fits.body.in_range; levels = fits.body.levels };
 }
 
 pub begins_more : (arities more : List ℕ) (qs : List Pred) → AritiesFit (arities ++ more) → BeginsTable arities qs → BeginsTable (arities ++ more) qs
@@ -109,7 +108,7 @@ fit_end qs n fit few small = (let l : length (arities_of qs ++ n ∷ []) ≡ suc
 
 -- ---- states
 
-closed_sound : (s : State) (o : Option OpenProof) → ¬ IsTrue (is_some o) → ProofIsSound s o
+pub closed_sound : (s : State) (o : Option OpenProof) → ¬ IsTrue (is_some o) → ProofIsSound s o
 closed_sound s None never = tt
 closed_sound s (Some p) never = absurd (never refl)
 
@@ -130,7 +129,6 @@ with_defined s name params body sound sayable closed unused below few small =
     let longer : BeginsTable (arities_of s.preds ++ length params ∷ []) s.preds = begins_more (arities_of s.preds) (length params ∷ []) s.preds fit sound.table_begins in
     record {
       table_begins = subst (λ (ns : List ℕ). BeginsTable ns (s.preds ++ defined name params body ∷ [])) (sym (arities_end s.preds (defined name params body))) (table_more (arities_of s.preds ++ length params ∷ []) s.preds (defined name params body) longer (defined_fits s name params body sayable unused) below);
-      lemmas_over = tables_are_grown.statements s.preds (defined name params body ∷ []) s.lemmas sound.lemmas_over;
       proof_sound = closed_sound (with_predicate s name params body) s.proof closed;
     }
 
@@ -149,8 +147,7 @@ sound_lemma s name statement sound sayable rows =
     let unused = none_when closed.1 in
     record {
       table_begins = sound.table_begins;
-      lemmas_over = sound.lemmas_over;
-      proof_sound = record { named = sayable.0; new = not_true (is_used s name) unused.0; over = sayable.1; shallow = sayable.2 };
+      proof_sound = record { named = sayable.0; new = not_true (is_used s name) unused.0 };
     }
 
 pub open_provable : (s : State) (p : OpenProof) → s.proof ≡ Some p → IsSound s → IsProvable s p.name p.statement
@@ -159,7 +156,6 @@ open_provable s p e sound = subst (ProofIsSound s) e sound.proof_sound
 pub sound_qed : (s : State) (p : OpenProof) → s.proof ≡ Some p → IsSound s → IsSound (proved s p)
 sound_qed s p e sound = record {
   table_begins = sound.table_begins;
-  lemmas_over = all_end (λ (l : Statement). InRange (arities_of s.preds) 0 l.formula) s.lemmas (record { name = p.name; formula = p.statement }) sound.lemmas_over (open_provable s p e sound).over;
   proof_sound = tt;
 }
 
@@ -168,8 +164,7 @@ sound_step s p gs e sound =
     let h : IsProvable s p.name p.statement = open_provable s p e sound in
     record {
       table_begins = sound.table_begins;
-      lemmas_over = sound.lemmas_over;
-      proof_sound = record { named = h.named; new = h.new; over = h.over; shallow = h.shallow };
+      proof_sound = record { named = h.named; new = h.new };
     }
 
 -- ---- names
@@ -178,10 +173,10 @@ stated : (ls : List Statement) (name : List ℕ) → is_stated (map (λ (l : Sta
 stated [] name = refl
 stated (l ∷ ls) name = ap (λ b. b || is_stated (map (λ (l : Statement). l.name) ls) name) (turned name l.name) ∙ ap (λ b. bytes_eq l.name name || b) (stated ls name)
 
-pub new_qed : (s : State) (p : OpenProof) → s.proof ≡ Some p → IsSound s → IsNew s.lemmas p.name × IsTrue (is_name p.name) × (depth_of p.statement ≤ MAX_LEVELS)
+pub new_qed : (s : State) (p : OpenProof) → s.proof ≡ Some p → IsSound s → (is_stated (map (λ (l : Statement). l.name) s.lemmas) p.name ≡ false) × IsTrue (is_name p.name)
 new_qed s p e sound =
     let h : IsProvable s p.name p.statement = open_provable s p e sound in
-    (stated s.lemmas p.name ∙ or_other (list_any (λ (q : Pred). bytes_eq q.name p.name) s.preds) (list_any (λ (l : Statement). bytes_eq l.name p.name) s.lemmas) h.new, h.named, h.shallow)
+    (stated s.lemmas p.name ∙ or_other (list_any (λ (q : Pred). bytes_eq q.name p.name) s.preds) (list_any (λ (l : Statement). bytes_eq l.name p.name) s.lemmas) h.new, h.named)
 
 or_first : (a b c : Bool) → ((a || (c || false)) || b) ≡ ((a || b) || c)
 or_first true b c = refl

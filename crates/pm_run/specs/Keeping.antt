@@ -1,18 +1,26 @@
 -- What a running script keeps, against the state of its run.
-use Rattle.std.specs.Prelude.{◌≡◌, ℕ, ◌-◌, ◌^◌, min, ◌≤◌, Bool, false, IsTrue, is_some, List, [], ◌∷◌, ◌++◌, length, Option, Some, None, Result, Ok, Err}
-use Rattle.pm_logic.specs.declared.limits.TheConstants.{MAX_LEMMAS, MAX_LEVELS}
+use Rattle.std.specs.Prelude.{◌≡◌, ℕ, ◌+◌, ◌-◌, ◌^◌, min, ◌≤◌, Bool, false, IsTrue, is_some, List, [], ◌∷◌, ◌++◌, length, map, reverse, Option, Some, None, Result, Ok, Err, option_map}
+use Rattle.std.specs.List.{AllByRecursion}
+use Rattle.pm_logic.specs.declared.limits.TheConstants.{MAX_LEMMAS, MAX_LEVELS, MAX_LINE_LEVELS, MAX_LINE_VARIABLES}
 use Rattle.pm_logic.specs.declared.formula.Formula.{Formula}
 use Rattle.pm_logic.specs.declared.formula.Pred.{Pred}
 use Rattle.pm_logic.specs.declared.formula.Preds.{Preds}
+use Rattle.pm_rules.specs.declared.rules.Entail.{Entail}
 use Rattle.pm_goal.specs.declared.goal.Goal.{Goal}
 use Rattle.pm_logic.specs.Size.{nodes_of, depth_of}
 use Rattle.pm_names.specs.Names.{is_name}
+use Rattle.pm_terms.specs.Scope.{Names}
 use Rattle.pm_dtext.specs.Ranges.{InRange}
 use Rattle.pm_dtext.specs.Texts.{arities_of}
-use Rattle.pm_check.specs.declared.checked.Statement.{Statement}
 use Rattle.pm_name_sets.specs.Sets.{has, Adds}
 use Rattle.pm_check.specs.Table.{BeginsTable}
-use Rattle.pm_derive.specs.Stating.{AreOver, States}
+use Rattle.pm_proof.specs.declared.joining.Step.{Step as ProofStep}
+use Rattle.pm_proof.specs.Trees.{Tree, depth, variables}
+use Rattle.pm_proof.specs.Valid.{Valid, EntailScoped, IsScoped}
+use Rattle.pm_proof.specs.Known.{Tables, From, IsAmong}
+use Rattle.pm_proof.specs.Joins.{Leads, lemmas_of, Joins}
+use Rattle.pm_write.specs.declared.writing.Named.{Named}
+use Rattle.pm_write.specs.Derived.{statement_of, conclusions, IsOneOf, AreWritable}
 use Rattle.pm_script.specs.declared.sentence.Sentence.{Sentence}
 use Rattle.pm_script.specs.declared.sentence.Sentence.TheVariants as sentence
 use Rattle.pm_script.specs.Stating.{stated_of}
@@ -24,35 +32,53 @@ use Rattle.pm_run.specs.declared.proof.Proof.{Proof}
 use Rattle.pm_run.specs.declared.running.Running.{Running}
 use Rattle.pm_run.specs.declared.running.Done.{Done}
 use Rattle.pm_run.specs.declared.running.Done.TheVariants as done
-use Rattle.pm_run.specs.Stepping.{StageFits, goals_of}
-use Rattle.pm_run.specs.Steps.{Step, step_name}
-use Rattle.pm_run.specs.Runs.{OpenProof, State, Answer, moves, refuses, unbuilt, Does, is_open, is_used, opening, predicate_rows, with_predicate, lemma_rows, opened, proof_rows, qed_rows, qed_state, directive_rows, directive_state}
+use Rattle.pm_run.specs.Stepping.{meaning, IsWithin, Shows}
+use Rattle.pm_run.specs.Steps.{Step, step_name, step_goals}
+use Rattle.pm_run.specs.Runs.{OpenProof, State, Answer, moves, refuses, unbuilt, Does, is_open, is_used, scope_by, opening, predicate_rows, with_predicate, lemma_rows, opened, proof_rows, qed_rows, qed_state, directive_rows, directive_state, new_goals}
 
--- ---- proofs
+-- ---- what is kept of an open proof, of which each table that comes has more predicates at its end, and these lemmas are proved
 
-pub record KeepsProof (p : Proof) (o : OpenProof) : Type 0 where
+-- a goal that is left
+pub record IsLeft (on : Tables) (goal : Goal) : Type 0 where
+  pub within : IsWithin goal
+  pub scoped : (preds : Preds) → IsAmong on preds → EntailScoped preds (meaning goal)
+
+-- a step that was done: it uses no lemma but proved ones
+pub record IsSafe (on : Tables) (known : List Entail) (s : ProofStep) : Type 0 where
+  pub valid : (preds : Preds) → IsAmong on preds → Valid preds s.proof
+  pub scoped : (preds : Preds) → IsAmong on preds → IsScoped preds s.proof
+  pub shallow : depth s.proof ≤ MAX_LINE_LEVELS
+  pub narrow : variables s.proof ≤ MAX_LINE_VARIABLES
+  pub lemmas : AllByRecursion (IsOneOf known) (lemmas_of s)
+
+-- the steps lead from what the statement means to what the goals mean that are left
+pub record KeepsProof (on : Tables) (known : List Entail) (p : Proof) (o : OpenProof) : Type 0 where
   pub name_is : p.name ≡ o.name
   pub statement_is : p.statement ≡ o.statement
-  pub goals_are : goals_of p.stage ≡ o.goals
-  pub fits : StageFits p.statement p.count p.stage
+  pub goals_are : reverse p.goals ≡ o.goals
+  pub leads : Leads (meaning (opening o.statement) ∷ []) p.steps.items (map meaning o.goals)
+  pub safe : AllByRecursion (IsSafe on known) p.steps.items
+  pub left : AllByRecursion (IsLeft on) o.goals
 
-abbrev pub KeepsProofs : Option Proof → Option OpenProof → Type 0
-KeepsProofs None None = Unit {0}
-KeepsProofs (Some p) (Some o) = KeepsProof p o
-KeepsProofs None (Some o) = ⊥
-KeepsProofs (Some p) None = ⊥
+abbrev pub KeepsProofs : Tables → List Entail → Option Proof → Option OpenProof → Type 0
+KeepsProofs on known None None = Unit {0}
+KeepsProofs on known (Some p) (Some o) = KeepsProof on known p o
+KeepsProofs on known None (Some o) = ⊥
+KeepsProofs on known (Some p) None = ⊥
 
 -- ---- states that a script can lead to
 
 abbrev pub table : State → Preds
 table s = record { list = s.preds }
 
+-- that of the state, and each that has more predicates at its end
+abbrev pub tables : State → Tables
+tables s = From (table s)
+
 -- a statement that may be proved over the table
 pub record IsProvable (s : State) (name : List ℕ) (statement : Formula) : Type 0 where
   pub named : IsTrue (is_name name)
   pub new : is_used s name ≡ false
-  pub over : InRange (arities_of s.preds) 0 statement
-  pub shallow : depth_of statement ≤ MAX_LEVELS
 
 abbrev pub ProofIsSound : State → Option OpenProof → Type 0
 ProofIsSound s None = Unit {0}
@@ -60,15 +86,16 @@ ProofIsSound s (Some p) = IsProvable s p.name p.statement
 
 pub record IsSound (s : State) : Type 0 where
   pub table_begins : BeginsTable (arities_of s.preds) s.preds
-  pub lemmas_over : AreOver (table s) s.lemmas
   pub proof_sound : ProofIsSound s s.proof
 
+-- The kept proofs are of the proved lemmas. They can be written down with the table and with each that has more predicates.
 pub record Keeps (r : Running) (s : State) : Type 0 where
   pub preds_are : r.preds.list ≡ s.preds
   pub names_are : (name : List ℕ) → has r.names name ≡ is_used s name
   pub lemmas_are : r.lemmas ≡ min (length s.lemmas) MAX_LEMMAS
-  pub states : States r.derivation s.lemmas
-  pub proof_is : KeepsProofs r.proof s.proof
+  pub states : map statement_of r.proofs ≡ s.lemmas
+  pub writable : (preds : Preds) → IsAmong (tables s) preds → AreWritable preds r.proofs
+  pub proof_is : KeepsProofs (tables s) (conclusions r.proofs) r.proof s.proof
   pub sound : IsSound s
 
 -- ---- what a sentence does
@@ -81,25 +108,69 @@ IsSayable s x = Unit {0}
 
 -- ---- what the code of a sentence answers, behind the table's rows
 
-abbrev pub IsAnswered : (name : List ℕ) → Table → State → Running → Done → Type 0
-IsAnswered name table state new done.Moved = table None × Keeps new state
-IsAnswered name table state new (done.Refused r) = (row : Row) × table (Some row) × (r ≡ refusal row name)
-IsAnswered name table state new done.Unbuilt = ⊥
+-- after a refusal everything is as before
+abbrev pub IsAnswered : (name : List ℕ) → Table → State → (old new : Running) → Done → Type 0
+IsAnswered name table state old new done.Moved = table None × Keeps new state
+IsAnswered name table state old new (done.Refused r) = (row : Row) × table (Some row) × (r ≡ refusal row name) × (new ≡ old)
+IsAnswered name table state old new done.Unbuilt = ⊥
 
-abbrev pub IsDone : Running → Answer → Done → Type 0
-IsDone new (moves s) d = (d ≡ done.Moved) × Keeps new s
-IsDone new (refuses r) d = d ≡ done.Refused r
-IsDone new unbuilt d = d ≡ done.Unbuilt
+abbrev pub IsDone : (old new : Running) → Answer → Done → Type 0
+IsDone old new (moves s) d = (d ≡ done.Moved) × Keeps new s
+IsDone old new (refuses r) d = (d ≡ done.Refused r) × (new ≡ old)
+IsDone old new unbuilt d = d ≡ done.Unbuilt
 
-pub record IsDoing (s : State) (x : Sentence) (new : Running) (d : Done) : Type 0 where
+pub record IsDoing (s : State) (x : Sentence) (old new : Running) (d : Done) : Type 0 where
   pub answer : Answer
   pub does : Does s x answer
-  pub is_done : IsDone new answer d
+  pub is_done : IsDone old new answer d
 
 -- a state is kept
 pub record IsKept (r : Running) : Type 0 where
   pub state : State
   pub kept : Keeps r state
+
+-- what the code keeps of an open proof, as the state has it
+abbrev pub open_of : Proof → OpenProof
+open_of p = record { name = p.name; statement = p.statement; goals = reverse p.goals }
+
+-- the names that a sentence may speak of
+abbrev pub scope_of : Running → Names
+scope_of r = scope_by (option_map open_of r.proof)
+
+-- ---- an open proof
+
+abbrev pub AreWithin : List Goal → Type 0
+AreWithin goals = AllByRecursion IsWithin goals
+
+-- nothing is done of a proof
+pub record IsBegun (name : List ℕ) (statement : Formula) (p : Proof) : Type 0 where
+  pub name_is : p.name ≡ name
+  pub statement_is : p.statement ≡ statement
+  pub steps_are : p.steps.items ≡ []
+  pub goals_are : p.goals ≡ opening statement ∷ []
+
+-- one step more, on the first goal: it uses no lemma
+pub record IsStepped (old : Proof) (d : Step) (new : Proof) : Type 0 where
+  pub name_is : new.name ≡ old.name
+  pub statement_is : new.statement ≡ old.statement
+  pub goals_are : reverse new.goals ≡ new_goals (reverse old.goals) d
+  pub step : ProofStep
+  pub steps_are : new.steps.items ≡ old.steps.items ++ step ∷ []
+  pub goal : Goal
+  pub rest : List Goal
+  pub first_is : reverse old.goals ≡ goal ∷ rest
+  pub count_is : step.goals ≡ length (step_goals goal d)
+  pub shows : Shows goal (map meaning (step_goals goal d)) step.proof
+
+-- the lemma of a proof whose steps lead to no goal is kept
+pub record IsProved (old : Running) (p : Proof) (new : Running) : Type 0 where
+  pub proof : Tree
+  pub joins : Joins p.steps.items proof
+  pub preds_are : new.preds ≡ old.preds
+  pub names_are : Adds old.names new.names p.name
+  pub lemmas_are : new.lemmas ≡ min (min (old.lemmas + 1) (2 ^ 64 - 1)) MAX_LEMMAS
+  pub proofs_are : new.proofs ≡ old.proofs ++ record { name = p.name; proof = proof } ∷ []
+  pub proof_is : new.proof ≡ old.proof
 
 -- ---- rows as the code tests them
 
@@ -116,25 +187,25 @@ abbrev pub UsesLastName : Running → Running → Type 0
 UsesLastName old new = (before : List Pred) (last : Pred) → old.preds.list ≡ before ++ last ∷ [] → Adds old.names new.names last.name × (new ≡ record old { names = new.names })
 
 -- of a lemma
-abbrev pub LemmaRow : Running → Bool → Goal → Option Row → Type 0
-LemmaRow r used goal row = (s : State) (name : List ℕ) (statement : Formula) → goal ≡ opening statement → is_some r.proof ≡ is_open s → used ≡ is_used s name → r.lemmas ≡ min (length s.lemmas) MAX_LEMMAS → lemma_rows s name statement row
+abbrev pub LemmaRow : Running → Bool → (all deepest : ℕ) → Option Row → Type 0
+LemmaRow r used all deepest row = (s : State) (name : List ℕ) (statement : Formula) → all ≡ min (nodes_of statement) (2 ^ 64 - 1) → deepest ≡ min (depth_of statement) (2 ^ 32 - 1) → is_some r.proof ≡ is_open s → used ≡ is_used s name → r.lemmas ≡ min (length s.lemmas) MAX_LEMMAS → lemma_rows s name statement row
 
 -- ---- what the code of each sentence answers, whatever state is kept
 
 abbrev pub AddsPredicate : Running → List ℕ → ℕ → Formula → Running → Done → Type 0
-AddsPredicate old name count body new d = (s : State) (params : List (List ℕ)) → count ≡ length params → Keeps old s → IsSayable s (sentence.Predicate name params body) → IsAnswered name (predicate_rows s name params body) (with_predicate s name params body) new d
+AddsPredicate old name count body new d = (s : State) (params : List (List ℕ)) → count ≡ length params → Keeps old s → IsSayable s (sentence.Predicate name params body) → IsAnswered name (predicate_rows s name params body) (with_predicate s name params body) old new d
 
 abbrev pub Opens : Running → List ℕ → Formula → Running → Done → Type 0
-Opens old name statement new d = (s : State) → Keeps old s → IsSayable s (sentence.Lemma name statement) → IsAnswered name (lemma_rows s name statement) (opened s name statement) new d
+Opens old name statement new d = (s : State) → Keeps old s → IsSayable s (sentence.Lemma name statement) → IsAnswered name (lemma_rows s name statement) (opened s name statement) old new d
 
 abbrev pub Begins : Running → Running → Done → Type 0
-Begins old new d = (s : State) → Keeps old s → IsAnswered [] (proof_rows s) s new d
+Begins old new d = (s : State) → Keeps old s → IsAnswered [] (proof_rows s) s old new d
 
 abbrev pub Closes : Running → Running → Done → Type 0
-Closes old new d = (s : State) → Keeps old s → IsAnswered [] (qed_rows s.proof) (qed_state s s.proof) new d
+Closes old new d = (s : State) → Keeps old s → IsAnswered [] (qed_rows s.proof) (qed_state s s.proof) old new d
 
 abbrev pub Directs : Running → Step → Running → Done → Type 0
-Directs old d new done = (s : State) → Keeps old s → IsAnswered (step_name d) (directive_rows s.proof d) (directive_state s s.proof d) new done
+Directs old d new done = (s : State) → Keeps old s → IsAnswered (step_name d) (directive_rows s.proof d) (directive_state s s.proof d) old new done
 
 abbrev pub DirectsIf : Running → Option Step → Running → Done → Type 0
 DirectsIf old None new d = d ≡ done.Unbuilt
@@ -147,4 +218,4 @@ abbrev pub StatesNothing : Sentence → Type 0
 StatesNothing x = stated_of x ≡ Err x
 
 abbrev pub DoesSentence : Running → Sentence → Running → Done → Type 0
-DoesSentence old x new d = (s : State) → Keeps old s → IsSayable s x → IsDoing s x new d
+DoesSentence old x new d = (s : State) → Keeps old s → IsSayable s x → IsDoing s x old new d

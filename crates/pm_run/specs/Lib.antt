@@ -1,3 +1,5 @@
+pub mod Arrows
+pub mod Boxes
 pub mod Coming
 pub mod Keeping
 pub mod Rows

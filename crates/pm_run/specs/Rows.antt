@@ -27,9 +27,13 @@ always row answer = answer ≡ Some row
 
 -- ---- how large a goal may be
 
--- the row for so many hypotheses, of so many nodes with the conclusion and so deep, and else what others answer
-abbrev pub size_row : (count all deepest : ℕ) → Option Row → Option Row
-size_row count all deepest others = row_if (nat_lt MAX_HYPOTHESES count) TooManyHypotheses (row_if (nat_lt MAX_NODES all) TooManyNodes (row_if (nat_lt MAX_LEVELS deepest) TooDeep others))
+-- the row for so many variables and hypotheses, of so many nodes with the conclusion and so deep, and else what others answer
+abbrev pub size_row : (vars count all deepest : ℕ) → Option Row → Option Row
+size_row vars count all deepest others = row_if (nat_lt MAX_VARIABLES vars) TooManyVariables (row_if (nat_lt MAX_HYPOTHESES count) TooManyHypotheses (row_if (nat_lt MAX_NODES all) TooManyNodes (row_if (nat_lt MAX_LEVELS deepest) TooDeep others)))
+
+-- the formulas of a goal's contexts
+abbrev pub contexts : Goal → List Formula
+contexts goal = facts goal.pures ++ (hyps goal.ints ++ hyps goal.spats)
 
 -- the formulas of a goal
 abbrev pub formulas : Goal → List Formula

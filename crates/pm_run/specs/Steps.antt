@@ -1,7 +1,8 @@
 -- What a directive takes a goal to. To build a directive: its rows and its goals here, as a table of rows and a list of goals;
--- a variant of `Step`, which src/step.rt reads; the function that does it in src/goals.rt, whose contract is `IsStepped`; and
--- what it adds to a derivation in pm_derive. Its rows of refusal are those of pm_goal. Then `rt check` in pm_run, a test in
--- pm_tests, and its table and an example in docs/LANGUAGE.md.
+-- a variant of `Step`, which src/step.rt reads; in src/rows.rt the function that finds its row, and in src/goals.rt the one that
+-- gives its goals with a proof, whose contract is `Moves`; in proofs/Meanings that its goals are scoped and within the limits.
+-- Its rows of refusal are those of pm_goal. Then `rt check` in pm_run, a test in pm_tests, and its table and an example in
+-- docs/LANGUAGE.md.
 use Rattle.std.specs.Prelude.{◌≡◌, ℕ, nat_lt, ◌&&◌, ◌||◌, ◌==◌, Bool, true, false, is_some, IsTrue, List, [], ◌∷◌, ◌++◌, length, position, slice_get, option_map, Option, Some, None}
 use Rattle.std.specs.List.{list_all}
 use Rattle.std.specs.Str.{bytes_eq}

@@ -3,22 +3,24 @@
 ghost use Rattle.std.specs.Prelude.{◌≡◌, ◌≤◌, ◌<◌, ◌^◌, not, IfOk, OnOk, IsTrue, length, is_some};
 ghost use Rattle.pm_name_sets.specs.Sets.{has};
 ghost use Rattle.pm_goal.specs.Refusals.{refusal};
+ghost use Rattle.pm_proof.specs.Joins.{IsComplete};
 ghost use Rattle.pm_run.specs.Runs.{start, opening};
-ghost use Rattle.pm_run.specs.Stepping.{HasOnlySpatial, step_view};
+ghost use Rattle.pm_run.specs.Stepping.{step_view};
 ghost use Rattle.pm_run.specs.Steps.{step_of};
-ghost use Rattle.pm_run.specs.Keeping.{Keeps, IsKept, TakesBack, UsesLastName, PredicateRow, LemmaRow, AddsPredicate, Opens, Begins, Closes, Directs, DirectsIf, StatesNothing, DoesSentence};
+ghost use Rattle.pm_run.specs.Keeping.{Keeps, IsKept, TakesBack, UsesLastName, PredicateRow, LemmaRow, AddsPredicate, Opens, Begins, IsBegun, IsProved, Closes, Directs, DirectsIf, StatesNothing, DoesSentence};
 
-use crate::goals::{Stepped, large_row, row_if, step_stage};
-use crate::proof::{Proof, Stage};
+use crate::proof::Proof;
+use crate::rows::{row_if, size_row};
 use crate::step::{Step, step_of};
-use pm_derive::Derivation;
 use pm_goal::{Ctx, Facts, Goal, Refusal, Row};
 use pm_logic::{
     Formula, List, MAX_LEMMAS, MAX_LEVELS, MAX_NODES, MAX_PREDICATES, MAX_VARIABLES, Memory, Name,
     Pred, Preds, copy, copy_name, depth, guarded, nodes,
 };
 use pm_name_sets::NameSet;
+use pm_proof::join;
 use pm_script::{Directive, Sentence, Stated};
+use pm_write::Named;
 use std::alloc::Global;
 
 /// What has become of a script so far: its predicates, its proved lemmas, and the proof that is open.
@@ -29,7 +31,8 @@ pub struct Running {
     pub names: NameSet,
     /// How many lemmas are proved, up to those that may be.
     pub lemmas: usize,
-    pub derivation: Derivation,
+    /// The proved lemmas, in order, with proofs of them.
+    pub proofs: List<Named>,
     pub proof: Option<Proof>,
 }
 
@@ -67,6 +70,20 @@ fn directive_refused(alloc: Global, row: Row, name: &Name) -> Result<Done, Memor
     }
 }
 
+/// The proof of a lemma, of which nothing is done.
+fn opened(alloc: Global, name: Name, statement: Formula) -> Result<Proof, Memory>
+    ensures { IfOk result (IsBegun name statement) }
+{
+    let mut goals = List::new(alloc);
+    goals.push(opening(alloc, &statement)?)?;
+    Ok(Proof {
+        name,
+        statement,
+        steps: Vec::new(alloc),
+        goals,
+    })
+}
+
 /// The goal that a lemma opens with.
 fn opening(alloc: Global, statement: &Formula) -> Result<Goal, Memory>
     ensures { IfOk result (λ goal. goal ≡ opening statement.now) }
@@ -92,7 +109,7 @@ impl Running {
             },
             names: NameSet::new(alloc),
             lemmas: 0,
-            derivation: Derivation::new(alloc),
+            proofs: List::new(alloc),
             proof: None,
         }
     }
@@ -182,12 +199,11 @@ impl Running {
         }
     }
 
-    /// The row that refuses a lemma that opens with this goal.
-    fn lemma_row(&self, used: bool, goal: &Goal) -> Option<Row>
-        requires { HasOnlySpatial goal.now }
-        ensures { LemmaRow self.now used goal.now result }
+    /// The row that refuses a lemma whose statement has so many nodes and is so deep.
+    fn lemma_row(&self, used: bool, all: u64, deepest: u32) -> Option<Row>
+        ensures { LemmaRow self.now used all deepest result }
     {
-        let large = large_row(goal, None);
+        let large = size_row(0, 0, all, deepest, None);
         let many = row_if(self.lemmas >= MAX_LEMMAS, Row::TooManyLemmas, large);
         row_if(
             self.is_open(),
@@ -201,16 +217,12 @@ impl Running {
         ensures { IfOk result (Opens self.old name statement self.new) }
     {
         let used = self.is_used(&name);
-        let goal = opening(alloc, &statement)?;
-        match self.lemma_row(used, &goal) {
+        let all = nodes(&statement);
+        let deepest = depth(&statement);
+        match self.lemma_row(used, all, deepest) {
             Some(row) => Ok(refused(row, name)),
             None => {
-                self.proof = Some(Proof {
-                    name,
-                    statement,
-                    count: 0,
-                    stage: Stage::Left(goal),
-                });
+                self.proof = Some(opened(alloc, name, statement)?);
                 Ok(Done::Moved)
             }
         }
@@ -230,6 +242,24 @@ impl Running {
         }
     }
 
+    /// Keeps the lemma of the proof that was open.
+    fn prove(&mut self, alloc: Global, proof: Proof) -> Result<(), Memory>
+        requires { IsComplete proof.steps.items }
+        ensures { OnOk result (IsProved self.old proof self.new) }
+    {
+        let Proof {
+            name,
+            statement: _,
+            steps,
+            goals: _,
+        } = proof;
+        let proof = join(alloc, steps)?;
+        self.names.insert(alloc, name.bytes())?;
+        self.proofs.push(Named { name, proof })?;
+        self.lemmas = self.lemmas.saturating_add(1).min(MAX_LEMMAS);
+        Ok(())
+    }
+
     /// Ends the open proof.
     pub fn qed(&mut self, alloc: Global) -> Result<Done, Memory>
         requires { IsKept self.now }
@@ -241,22 +271,18 @@ impl Running {
                 name: None,
             }));
         };
-        match proof.stage {
-            Stage::Left(_) => Ok(Done::Refused(Refusal {
-                row: Row::GoalsRemain,
-                name: None,
-            })),
-            Stage::Closed(place) => {
-                self.derivation
-                    .lemma(alloc, &proof.name, &proof.statement, proof.count, place)?;
-                self.names.insert(alloc, proof.name.bytes())?;
-                self.lemmas = self.lemmas.saturating_add(1).min(MAX_LEMMAS);
-                Ok(Done::Moved)
-            }
+        if proof.goals.is_empty() {
+            self.prove(alloc, proof)?;
+            return Ok(Done::Moved);
         }
+        self.proof = Some(proof);
+        Ok(Done::Refused(Refusal {
+            row: Row::GoalsRemain,
+            name: None,
+        }))
     }
 
-    /// Does a directive on the goal that is left.
+    /// Does a directive on the first goal that is left.
     pub fn directive(&mut self, alloc: Global, step: Step) -> Result<Done, Memory>
         requires { IsKept self.now }
         ensures { IfOk result (Directs self.old (step_view step.entry) self.new) }
@@ -267,15 +293,13 @@ impl Running {
                 name: None,
             }));
         };
-        match step_stage(alloc, proof.stage, step)? {
-            Stepped::Refused(row) => directive_refused(alloc, row, step.name()),
-            Stepped::Moved(stage) => {
-                self.proof = Some(Proof {
-                    name: proof.name,
-                    statement: proof.statement,
-                    count: proof.count + step.introduces(),
-                    stage,
-                });
+        match proof.row(alloc, step)? {
+            Some(row) => {
+                self.proof = Some(proof);
+                directive_refused(alloc, row, step.name())
+            }
+            None => {
+                self.proof = Some(proof.stepped(alloc, step)?);
                 Ok(Done::Moved)
             }
         }

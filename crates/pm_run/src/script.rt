@@ -1,20 +1,21 @@
 //! Whole scripts.
 
-ghost use Rattle.std.specs.Prelude.{◌≡◌, ◌≤◌, ◌+◌, IfOk, Ok, length, []};
+ghost use Rattle.std.specs.Prelude.{◌≡◌, ◌≤◌, ◌+◌, IfOk, Ok, length, reverse};
 ghost use Rattle.pm_script.specs.SentenceReading.{read_sentence};
 ghost use Rattle.pm_cutter.specs.Cutting.{clean, finished, end_of};
 ghost use Rattle.pm_cutter.specs.Spans.{part_of, parts_of, end_from};
 ghost use Rattle.pm_run.specs.Coming.{limit, ComesTo};
-ghost use Rattle.pm_run.specs.Keeping.{IsKept};
+ghost use Rattle.pm_run.specs.Keeping.{IsKept, scope_of};
 ghost use Rattle.pm_run.specs.Looping.{stop_of, AtSpan, AtSpans, Ends, EndsWith, IsShort, AreShort, EndIsShort, IsCut, stopped};
 
 use crate::ran::Ran;
 use crate::running::{Done, Running};
 use pm_cutter::{Cutter, Ended, Span};
-use pm_goal::{Refusal, Row};
-use pm_logic::{List, MAX_TABLE, Memory, Preds};
+use pm_goal::{Goal, Refusal, Row};
+use pm_logic::{List, MAX_NAMES, MAX_TABLE, Memory, Name, Preds, copy_name};
 use pm_script::{Sentence, read_sentence};
 use pm_terms::TextFault;
+use pm_write::write_derivation;
 use std::alloc::Global;
 
 /// Where a run stops.
@@ -46,18 +47,46 @@ fn stopped(stop: Stop) -> Ran
     }
 }
 
-/// Reads a sentence over these predicates. The inner error is the first fault of its text.
+/// The names of a goal's variables, the newest first.
+fn names_of(alloc: Global, goal: &Goal) -> Result<List<Name>, Memory>
+    ensures { IfOk result (λ names. names ≡ reverse goal.now.vars) }
+{
+    let vars = goal.vars.as_slice();
+    let mut names = List::new(alloc);
+    let mut i = vars.len();
+    while i > 0 {
+        i -= 1;
+        names.push(copy_name(alloc, &vars[i])?)?;
+    }
+    Ok(names)
+}
+
+/// The names that a sentence may speak of, the newest first: those of the first goal's variables.
+fn scope(alloc: Global, running: &Running) -> Result<List<Name>, Memory>
+    ensures { IfOk result (λ names. names ≡ scope_of running.now) }
+{
+    match &running.proof {
+        Some(proof) => match proof.goals.as_slice().last() {
+            Some(goal) => names_of(alloc, goal),
+            None => Ok(List::new(alloc)),
+        },
+        None => Ok(List::new(alloc)),
+    }
+}
+
+/// Reads a sentence over these predicates with these names. The inner error is the first fault of its text.
 fn read_span(
     alloc: Global,
     preds: &Preds,
+    names: &List<Name>,
     span: &Span,
 ) -> Result<Result<Sentence, TextFault>, Memory>
     requires short { IsShort span.now }
     requires few { length preds.now.list ≤ MAX_TABLE }
-    ensures { IfOk result (λ read. read_sentence span.now.offset preds.now.list [] span.now.text ≡ read) }
+    requires few_names { length names.now ≤ MAX_NAMES }
+    ensures { IfOk result (λ read. read_sentence span.now.offset preds.now.list names.now span.now.text ≡ read) }
 {
-    let names = List::new(alloc);
-    match read_sentence(alloc, span.text.as_slice(), span.offset, &names, preds) {
+    match read_sentence(alloc, span.text.as_slice(), span.offset, names, preds) {
         Ok(sentence) => Ok(Ok(sentence)),
         Err(TextFault::Memory) => Err(Memory),
         Err(fault) => Ok(Err(fault)),
@@ -88,7 +117,7 @@ fn do_read(
     sentence: Sentence,
 ) -> Result<Option<Stop>, Memory>
     requires kept { IsKept running.now }
-    requires read { read_sentence span.now.offset running.now.preds.list [] span.now.text ≡ Ok sentence }
+    requires read { read_sentence span.now.offset running.now.preds.list (scope_of running.now) span.now.text ≡ Ok sentence }
     ensures { IfOk result (AtSpan running.old number span.now running.new) }
 {
     let done = running.sentence(alloc, sentence)?;
@@ -106,7 +135,8 @@ fn do_span(
     requires short { IsShort span.now }
     ensures { IfOk result (AtSpan running.old number span.now running.new) }
 {
-    let read = read_span(alloc, &running.preds, span)?;
+    let names = scope(alloc, running)?;
+    let read = read_span(alloc, &running.preds, &names, span)?;
     match read {
         Ok(sentence) => do_read(alloc, running, number, span, sentence),
         Err(fault) => Ok(Some(Stop::Unreadable(fault))),
@@ -163,10 +193,10 @@ fn ended(alloc: Global, running: Running, number: u64, size: u64) -> Result<Ran,
         preds,
         names: _,
         lemmas: _,
-        derivation,
+        proofs,
         proof: _,
     } = running;
-    Ok(Ran::Accepted(derivation.finish(alloc, &preds)?))
+    Ok(Ran::Accepted(write_derivation(alloc, &preds, &proofs)?))
 }
 
 /// Does the sentence that the end finishes, and ends.

@@ -1,8 +1,8 @@
 //! The directives that are built.
 
-ghost use Rattle.std.specs.Prelude.{◌≡◌, ◌≤◌, option_map};
+ghost use Rattle.std.specs.Prelude.{◌≡◌, option_map};
 ghost use Rattle.pm_run.specs.Steps.{name_of, intro_of, step_of};
-ghost use Rattle.pm_run.specs.Stepping.{introduces, step_view};
+ghost use Rattle.pm_run.specs.Stepping.{step_view};
 
 use pm_logic::Name;
 use pm_patterns::Pat;
@@ -110,17 +110,6 @@ impl Step<'_> {
         match self {
             Step::Intro(name) => name,
             Step::Exact(name) => name,
-        }
-    }
-
-    /// How many hypotheses it introduces.
-    pub fn introduces(&self) -> usize
-        ensures value { result ≡ introduces (step_view self.now) }
-        ensures few { result ≤ 1 }
-    {
-        match self {
-            Step::Intro(_) => 1,
-            Step::Exact(_) => 0,
         }
     }
 }

@@ -1,8 +1,9 @@
-use Rattle.std.proofs.Common.{◌≡◌, rules}
-use Rattle.pm_run.proofs.Steppings.{exact_closes}
+use Rattle.std.proofs.Common.{sym, map, subst}
+use Rattle.pm_run.specs.Stepping.{Shows, meaning}
 use Rattle.pm_run.proofs.goals.exact.Goals as goal
 
-pub returns-then-same : goal.returns-then-same
-returns-then-same c =
-    let same : c.in-Some-formula.formula.now ≡ c.args.goal.now.concl = search rules in
-    exact_closes c.args.goal.now c.args.name.now c.in-Some.place c.in-Some-formula.formula.now c.in-Some.ensures.place c.in-Some-formula.ensures same
+pub returns : goal.returns
+returns c = record {
+  goals = c.new-goals.ensures;
+  proves = subst (λ gs. Shows c.args.goal.now (map meaning gs) c.in_ok-proof.proof) (sym c.new-goals.ensures) c.in_ok-proof.ensures;
+}

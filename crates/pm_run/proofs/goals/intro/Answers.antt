@@ -1,15 +1,10 @@
-use Rattle.std.proofs.Common.{◌≡◌, Some, None, sym, subst, rules}
-use Rattle.pm_run.specs.Steps.{sides_of, introduced, intro_rows}
-use Rattle.pm_run.proofs.Steppings.{intro_refused, intro_moves, new_here}
+use Rattle.std.proofs.Common.{sym, map, subst}
+use Rattle.pm_run.specs.Stepping.{Shows, meaning}
+use Rattle.pm_run.proofs.Meanings.{intro_shows}
 use Rattle.pm_run.proofs.goals.intro.Goals as goal
 
-pub returns-in-Some-intro_row : goal.returns-in-Some-intro_row
-returns-in-Some-intro_row c =
-    let split : sides_of c.args.goal.concl ≡ Some (c.in-Some.implies, c.in-Some.a.now, c.in-Some.b.now) = search rules in
-    intro_refused c.args.goal c.args.name.now c.in-Some.implies c.in-Some.a.now c.in-Some.b.now c.in-Some-intro_row.row split c.in-Some-intro_row.ensures
-
 pub returns : goal.returns
-returns c =
-    let split : sides_of c.args.goal.concl ≡ Some (c.in-Some.implies, c.in-Some.a.now, c.in-Some.b.now) = search rules in
-    let is : c.in_ok-new.new ≡ introduced c.args.goal c.args.name.now c.in-Some.a.now c.in-Some.b.now = search rules in
-    intro_moves c.args.goal c.args.name.now c.in-Some.implies c.in-Some.a.now c.in-Some.b.now c.in_ok-new.new c.requires.spatial split is c.in_default-intro_row.ensures
+returns c = record {
+  goals = c.in_ok-goals.ensures;
+  proves = subst (λ gs. Shows c.args.goal (map meaning gs) c.in_ok-proof.proof) (sym c.in_ok-goals.ensures) (intro_shows c.args.goal c.args.name.now c.in_ok-proof.proof c.in_ok-proof.ensures);
+}

@@ -3,6 +3,6 @@ use Rattle.pm_run.proofs.RowTests.{lemma_row_is}
 use Rattle.pm_run.proofs.running.Running.lemma_row.Goals as goal
 
 pub returns : goal.returns
-returns c = λ s name statement goals opens uses counts.
-    lemma_row_is s name statement c.args.goal.now c.is_open.result c.args.used c.args.self.now.lemmas c.large_row-large.result c.row_if-many.result c.row_if.result c.row_if-2.result
-    goals (c.is_open.ensures ∙ opens) uses counts c.large_row-large.ensures c.row_if-many.ensures c.row_if.ensures c.row_if-2.ensures
+returns c = λ s name statement nodes levels opens uses counts.
+    lemma_row_is s name statement c.is_open.result c.args.used c.args.self.now.lemmas c.args.all c.args.deepest c.size_row-large.result c.row_if-many.result c.row_if.result c.row_if-2.result
+    nodes levels (c.is_open.ensures ∙ opens) uses counts c.size_row-large.ensures c.row_if-many.ensures c.row_if.ensures c.row_if-2.ensures

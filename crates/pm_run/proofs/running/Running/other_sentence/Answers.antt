@@ -8,13 +8,13 @@ use Rattle.pm_run.proofs.running.Running.other_sentence.Goals as goal
 
 pub returns-in-Proof : goal.returns-in-Proof
 returns-in-Proof c = λ nothing. λ s k sayable.
-    subst (λ x. IsDoing s x c.begin.new.self c.begin.result) (sym c.in-Proof.is) (does_proof s c.begin.new.self c.begin.result (c.begin.ensures s k))
+    subst (λ x. IsDoing s x c.args.self.now c.begin.new.self c.begin.result) (sym c.in-Proof.is) (does_proof s c.args.self.now c.begin.new.self c.begin.result (c.begin.ensures s k))
 
 pub returns-in-Qed : goal.returns-in-Qed
 returns-in-Qed c = λ nothing.
     subst (λ x. IfOk c.qed.result (DoesSentence c.args.self.now x c.qed.new.self)) (sym c.in-Qed.is)
     (on_ok (Closes c.args.self.now c.qed.new.self) (DoesSentence c.args.self.now sentence.Qed c.qed.new.self) c.qed.result
-    (λ d h. λ s k sayable. does_qed s c.qed.new.self d (h s k)) c.qed.ensures)
+    (λ d h. λ s k sayable. does_qed s c.args.self.now c.qed.new.self d (h s k)) c.qed.ensures)
 
 pub returns-in-Directive : goal.returns-in-Directive
 returns-in-Directive c = λ nothing.
@@ -23,7 +23,7 @@ returns-in-Directive c = λ nothing.
     (λ d h. λ s k sayable. does_directive c.args.self.now c.any_directive.new.self c.in-Directive.directive d h s k) c.any_directive.ensures)
 
 pub returns-in-Abort : goal.returns-in-Abort
-returns-in-Abort c = λ nothing. λ s k sayable. does_nothing s c.args.sentence.now c.args.self.now (not_built s c.args.sentence.now c.in-Abort.is)
+returns-in-Abort c = λ nothing. λ s k sayable. does_nothing s c.args.sentence.now c.args.self.now c.args.self.now (not_built s c.args.sentence.now c.in-Abort.is)
 
 pub returns-in-Predicate : goal.returns-in-Predicate
 returns-in-Predicate c = λ nothing. absurd (states_either c.args.sentence.now c.in-Predicate.is nothing)

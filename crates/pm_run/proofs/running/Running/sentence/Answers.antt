@@ -15,7 +15,7 @@ returns-in-Ok-Predicate c =
     let e : stated_of c.args.sentence ≡ Ok (stated.Predicate name params body) = search rules in
     subst (λ x. IfOk c.predicate.result (DoesSentence c.args.self.now x c.predicate.new.self)) (sym (is_predicate c.args.sentence name params body e))
     (on_ok (AddsPredicate c.args.self.now name c.len.result body c.predicate.new.self) (DoesSentence c.args.self.now (sentence.Predicate name params body) c.predicate.new.self) c.predicate.result
-    (λ d h. λ s k sayable. does_predicate s name params body c.predicate.new.self d (h s params c.len.ensures k sayable)) c.predicate.ensures)
+    (λ d h. λ s k sayable. does_predicate s name params body c.args.self.now c.predicate.new.self d (h s params c.len.ensures k sayable)) c.predicate.ensures)
 
 pub returns-in-Ok-Lemma : goal.returns-in-Ok-Lemma
 returns-in-Ok-Lemma c =
@@ -24,7 +24,7 @@ returns-in-Ok-Lemma c =
     let e : stated_of c.args.sentence ≡ Ok (stated.Lemma name statement) = search rules in
     subst (λ x. IfOk c.lemma.result (DoesSentence c.args.self.now x c.lemma.new.self)) (sym (is_lemma c.args.sentence name statement e))
     (on_ok (Opens c.args.self.now name statement c.lemma.new.self) (DoesSentence c.args.self.now (sentence.Lemma name statement) c.lemma.new.self) c.lemma.result
-    (λ d h. λ s k sayable. does_lemma s name statement c.lemma.new.self d (h s k sayable)) c.lemma.ensures)
+    (λ d h. λ s k sayable. does_lemma s name statement c.args.self.now c.lemma.new.self d (h s k sayable)) c.lemma.ensures)
 
 pub returns-in-Err : goal.returns-in-Err
 returns-in-Err c =

@@ -1,4 +1,4 @@
-use Rattle.std.proofs.Common.{◌≡◌, ◌∷◌, [], ◌++◌, ◌<◌, Some, None, ◌∙◌, sym, ap, length, rules}
+use Rattle.std.proofs.Common.{◌≡◌, ◌∷◌, [], ◌++◌, ◌<◌, ◌∙◌, sym, ap, length, rules}
 use Rattle.pm_run.specs.declared.running.Done.TheVariants as done
 use Rattle.pm_goal.specs.Refusals.{refusal}
 use Rattle.pm_run.proofs.Lasts.{last_same, some_last}

@@ -1,9 +1,0 @@
-pub mod Spelled
-pub mod Arguments
-pub mod Wording
-pub mod Growing
-pub mod Allowed
-pub mod Reached
-pub mod Sided
-pub mod Stated
-pub mod Lawful

@@ -1,5 +1,0 @@
-use Rattle.pm_derive.proofs.Spelled.{sign_scale}
-use Rattle.pm_derive.proofs.texts.term_sign.Goals as goal
-
-pub returns-in-Scale : goal.returns-in-Scale
-returns-in-Scale c = sign_scale _ _ _ c.in-Scale.is
