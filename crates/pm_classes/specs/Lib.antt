@@ -1,2 +1,5 @@
 pub mod Persistence
 pub mod Classes
+pub mod Entries
+pub mod Closing
+pub mod Laws

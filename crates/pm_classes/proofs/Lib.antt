@@ -1,0 +1,14 @@
+pub mod Sizes
+pub mod Closed
+pub mod Known
+pub mod Halves
+pub mod Table
+pub mod Smaller
+pub mod Done
+pub mod Scoped
+pub mod Undone
+pub mod Bound
+pub mod Combined
+pub mod Bodies
+pub mod Calls
+pub mod Handed
