@@ -152,7 +152,7 @@ unfolding fewer_units
 fewer_left (Pts k a w) l b v = units_left l v b (b - a) (term_eq k l && term_eq w v && nat_lt a b)
 fewer_left _ l b v = tt
 
--- of R0, where R is ▷R0
+-- of what stands under ▷, where R is so
 stripped_left : (a : Formula) → ((r : Formula) → IfSome (frame r a) (IsLeft a)) → (o : Option Formula) → IfSome (option_and_then (λ r0. frame r0 a) o) (IsLeft a)
 stripped_left a each (Some r) = each r
 stripped_left a each None = tt
