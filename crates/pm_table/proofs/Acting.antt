@@ -23,7 +23,8 @@ use Rattle.pm_patterns.specs.declared.pattern.Pat.TheVariants as pat
 use Rattle.pm_patterns.specs.Patterns as pair
 use Rattle.pm_script.specs.declared.directive.Directive.{Directive}
 use Rattle.pm_script.specs.declared.directive.Directive.TheVariants as d
-use Rattle.pm_table.specs.Outcomes.{Place, Outcome, Action, one, refuse_plain}
+use Rattle.pm_table.specs.Outcomes.{Outcome, Action, one, refuse_plain}
+use Rattle.pm_table.specs.declared.place.Place.{Place}
 use Rattle.pm_table.specs.Works.{Named}
 use Rattle.pm_table.specs.Running.{Run, after, once, in_turn, on_all, with_turn, act, act_with, each_alone, untouched, followed_by, for_each, in_order}
 use Rattle.pm_table.specs.Introductions.{sides_of, intro_hyp, intro_all_fresh, universal_of}

@@ -30,7 +30,9 @@ use Rattle.pm_classes.specs.Classes.{Parts, into_or, into_pure, into_forall, int
 use Rattle.pm_classes.specs.Persistence.{is_persistent}
 use Rattle.pm_table.specs.declared.passage.Passage.{Passage}
 use Rattle.pm_table.specs.declared.passage.Passage.TheVariants as passage
-use Rattle.pm_table.specs.Outcomes.{Place, Outcome, Action, gives, current, finished, one, closed}
+use Rattle.pm_table.specs.Outcomes.{Outcome, Action, gives, one, closed}
+use Rattle.pm_table.specs.declared.place.Place.{Place}
+use Rattle.pm_table.specs.declared.place.Place.TheVariants.{Finished as finished, Current as current}
 use Rattle.pm_table.specs.Limits.{resting, work_at}
 use Rattle.pm_table.specs.Works
 use Rattle.pm_table.specs.Works.{Named, Hand, hand_of, has_hyp, has_fact, has_hyp_or_fact, hyp_named, fact_named, index_named, is_listed, fits, fresh_name, with_hyp, with_fact, with_int, with_var, with_concl, without_named, without_spat, work_of, hyps_in, hyps_out}

@@ -9,7 +9,9 @@ use Rattle.pm_goal.specs.declared.refusal.Refusal.{Refusal}
 use Rattle.pm_goal.specs.declared.refusal.Row.{Row}
 use Rattle.pm_patterns.specs.declared.pattern.Pick.{Pick}
 use Rattle.pm_classes.specs.Classes.{Parts}
-use Rattle.pm_table.specs.Outcomes.{Place, finished, current, Outcome, gives, refused, joined, closed, require_entry, require_some}
+use Rattle.pm_table.specs.Outcomes.{Outcome, gives, refused, joined, closed, require_entry, require_some}
+use Rattle.pm_table.specs.declared.place.Place.{Place}
+use Rattle.pm_table.specs.declared.place.Place.TheVariants.{Finished as finished, Current as current}
 use Rattle.pm_table.specs.Works.{Named, has_hyp, has_spat, is_listed, hyps_in, hyps_out, hyps_but, hyp_named, without_spat, with_concl}
 use Rattle.pm_table.specs.Basic.{chosen, unchosen, sides, split_at, star_parts, all_spatial, refuse_where, repeated, list_given, is_truth}
 use Rattle.pm_table.specs.Framing.{frame}

@@ -3,7 +3,9 @@ use Rattle.std.proofs.Common.{◌≡◌, ℕ, zero, suc, Bool, true, false, cond
 use Rattle.pm_goal.specs.declared.goal.Goal.{Goal}
 use Rattle.pm_goal.specs.declared.work.Work.{Work}
 use Rattle.pm_goal.specs.declared.refusal.Row.{Row}
-use Rattle.pm_table.specs.Outcomes.{Place, finished, current, Outcome, gives, refused, Action}
+use Rattle.pm_table.specs.Outcomes.{Outcome, gives, refused, Action}
+use Rattle.pm_table.specs.declared.place.Place.{Place}
+use Rattle.pm_table.specs.declared.place.Place.TheVariants.{Finished as finished, Current as current}
 use Rattle.pm_table.specs.Limits.{work_at, limited}
 use Rattle.pm_table.specs.Running.{Run, ran, stopped, adding, after, beside_places, beside, on_all, stays, run_of, once, turns_behind, keeping_turns, in_place, in_turn, with_turn, act_with, act, each_alone, untouched, followed_by, for_each, in_order}
 use Rattle.pm_table.specs.Stepping.{Each}

@@ -4,7 +4,8 @@ use Rattle.pm_goal.specs.declared.goal.Goal.{Goal}
 use Rattle.pm_goal.specs.declared.work.Held.{Held}
 use Rattle.pm_goal.specs.declared.work.Work.{Work}
 use Rattle.pm_goal.specs.declared.refusal.Row.{Row}
-use Rattle.pm_table.specs.Outcomes.{Place, Outcome, gives, refused, Action, refuse, refuse_plain, require, require_plain, require_some, require_entry, joined, one}
+use Rattle.pm_table.specs.Outcomes.{Outcome, gives, refused, Action, refuse, refuse_plain, require, require_plain, require_some, require_entry, joined, one}
+use Rattle.pm_table.specs.declared.place.Place.{Place}
 use Rattle.pm_table.specs.Limits.{limit_row, work_at, kept_or, within_limits, all_within, limited}
 use Rattle.pm_table.specs.Works.{Named, has_hyp, has_spat, Hand, hand_of, acting_on, with_last}
 use Rattle.pm_table.specs.Running.{turns_behind}

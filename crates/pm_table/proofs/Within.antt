@@ -13,7 +13,9 @@ use Rattle.pm_goal.specs.declared.refusal.Row.{Row}
 use Rattle.pm_goal.specs.declared.refusal.Row.TheVariants.{TooManyVariables, TooManyHypotheses, TooManyNodes, TooDeep}
 use Rattle.pm_script.specs.declared.directive.Directive.{Directive}
 use Rattle.pm_script.specs.declared.directive.Directive.TheVariants as d
-use Rattle.pm_table.specs.Outcomes.{Place, current, Outcome, gives, refused, Action, joined, one}
+use Rattle.pm_table.specs.Outcomes.{Outcome, gives, refused, Action, joined, one}
+use Rattle.pm_table.specs.declared.place.Place.{Place}
+use Rattle.pm_table.specs.declared.place.Place.TheVariants.{Current as current}
 use Rattle.pm_table.specs.Limits.{formulas, work_formulas, all_nodes, greatest_depth, hypotheses, row_where, limit_row, resting, work_at, kept_or, within_limits, all_within, limited}
 use Rattle.pm_table.specs.Introductions.{intro_hyp, intro_all_fresh}
 use Rattle.pm_table.specs.Destructs as destructs

@@ -4,7 +4,8 @@ use Rattle.pm_goal.specs.declared.goal.Hyp.{Hyp}
 use Rattle.pm_goal.specs.declared.goal.Goal.{Goal}
 use Rattle.pm_patterns.specs.declared.pattern.Pick.{Pick}
 use Rattle.pm_patterns.specs.declared.pattern.Spat.TheVariants as premise
-use Rattle.pm_table.specs.Outcomes.{Place, Outcome, gives, refused}
+use Rattle.pm_table.specs.Outcomes.{Outcome, gives, refused}
+use Rattle.pm_table.specs.declared.place.Place.{Place}
 use Rattle.pm_table.specs.Limits.{work_at}
 use Rattle.pm_table.specs.Works.{Named, is_listed}
 use Rattle.pm_table.specs.Basic.{split_at}

@@ -15,7 +15,9 @@ use Rattle.pm_logic.specs.Substitution.{shift_of}
 use Rattle.pm_patterns.specs.declared.pattern.Pat.{Pat}
 use Rattle.pm_patterns.specs.declared.pattern.Pat.TheVariants.{Drop, PureName, PureFresh}
 use Rattle.pm_classes.specs.Classes.{Parts, into_sep, into_and, into_or, into_exist, into_pure, into_persistent}
-use Rattle.pm_table.specs.Outcomes.{Place, current, Outcome, gives, refuse_plain, require, require_plain, require_entry, closed, one}
+use Rattle.pm_table.specs.Outcomes.{Outcome, gives, refuse_plain, require, require_plain, require_entry, closed, one}
+use Rattle.pm_table.specs.declared.place.Place.{Place}
+use Rattle.pm_table.specs.declared.place.Place.TheVariants.{Current as current}
 use Rattle.pm_table.specs.Works.{Named, fits, fresh_name, with_fact, with_hyp, with_var, holding, each_held, work_of, Hand, with_last}
 
 -- the work with what was behind the last in hand, and these formulas of the kind after it

@@ -15,7 +15,9 @@ use Rattle.pm_patterns.specs.declared.pattern.ProofTerm.{ProofTerm}
 use Rattle.pm_patterns.specs.Patterns.{Elim}
 use Rattle.pm_script.specs.declared.directive.Directive.{Directive}
 use Rattle.pm_script.specs.declared.directive.Directive.TheVariants as d
-use Rattle.pm_table.specs.Outcomes.{Place, finished, current, Action}
+use Rattle.pm_table.specs.Outcomes.{Action}
+use Rattle.pm_table.specs.declared.place.Place.{Place}
+use Rattle.pm_table.specs.declared.place.Place.TheVariants.{Finished as finished, Current as current}
 use Rattle.pm_table.specs.Limits.{resting, work_at}
 use Rattle.pm_table.specs.Works.{Named}
 use Rattle.pm_table.specs.Running.{Run, ran, stopped, after, act, act_with, each_alone, for_each, in_order}

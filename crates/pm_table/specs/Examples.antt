@@ -22,7 +22,8 @@ use Rattle.pm_goal.specs.declared.refusal.Row.TheVariants.{NoSuchHypothesis, Not
 use Rattle.pm_patterns.specs.declared.pattern.Spat.TheVariants as premise
 use Rattle.pm_patterns.specs.declared.pattern.Cert.{Cert}
 use Rattle.pm_classes.specs.Classes.{into_wand, into_forall, from_pure, combine}
-use Rattle.pm_table.specs.Outcomes.{finished, gives, closed, one, refuse, refuse_plain}
+use Rattle.pm_table.specs.Outcomes.{gives, closed, one, refuse, refuse_plain}
+use Rattle.pm_table.specs.declared.place.Place.TheVariants.{Finished as finished}
 use Rattle.pm_table.specs.Equality.{terms_eq, pure_eq, formula_eq}
 use Rattle.pm_table.specs.Occurrences.{in_a_term, in_some_term, in_a_pure, in_a_formula}
 use Rattle.pm_table.specs.Works.{Named, hyp, fact, holding, work_of}

@@ -9,7 +9,9 @@ use Rattle.pm_goal.specs.declared.work.Work.{Work}
 use Rattle.pm_goal.specs.declared.refusal.Row.{Row}
 use Rattle.pm_goal.specs.declared.refusal.Row.TheVariants.{TooManyVariables, TooManyHypotheses, TooManyNodes, TooDeep}
 use Rattle.pm_goal.specs.Left.{facts, hyps}
-use Rattle.pm_table.specs.Outcomes.{Place, finished, current, Outcome, gives, refused, refuse_plain, joined}
+use Rattle.pm_table.specs.Outcomes.{Outcome, gives, refused, refuse_plain, joined}
+use Rattle.pm_table.specs.declared.place.Place.{Place}
+use Rattle.pm_table.specs.declared.place.Place.TheVariants.{Finished as finished, Current as current}
 
 -- a fact counts as a formula, and no box is counted
 abbrev pub formulas : Goal → List Formula

@@ -5,12 +5,8 @@ use Rattle.pm_goal.specs.declared.work.Work.{Work}
 use Rattle.pm_goal.specs.declared.refusal.Row.{Row}
 use Rattle.pm_goal.specs.declared.refusal.Refusal.{Refusal}
 use Rattle.pm_goal.specs.Refusals.{refusal}
-
-pub data Place : Type 0 where
-  -- a goal that no later action is for
-  finished : (goal : Goal) → Place
-  -- a work, and for each of the patterns to come, the next one first, whether it is for this work
-  current : (turns : List Bool) → (work : Work) → Place
+use Rattle.pm_table.specs.declared.place.Place.{Place}
+use Rattle.pm_table.specs.declared.place.Place.TheVariants.{Current as current}
 
 pub data Outcome : Type 0 where
   gives : (places : List Place) → Outcome

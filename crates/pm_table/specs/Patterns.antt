@@ -12,7 +12,9 @@ use Rattle.pm_patterns.specs.declared.pattern.Pat.{Pat}
 use Rattle.pm_patterns.specs.declared.pattern.Pat.TheVariants as pat
 use Rattle.pm_patterns.specs.Patterns.{Pair, Either, Int, Spat, Elim}
 use Rattle.pm_classes.specs.Persistence.{is_persistent}
-use Rattle.pm_table.specs.Outcomes.{Place, Outcome, refuse_plain, Action, gives, refused, current, one}
+use Rattle.pm_table.specs.Outcomes.{Outcome, refuse_plain, Action, gives, refused, one}
+use Rattle.pm_table.specs.declared.place.Place.{Place}
+use Rattle.pm_table.specs.declared.place.Place.TheVariants.{Current as current}
 use Rattle.pm_table.specs.Works.{Named}
 use Rattle.pm_table.specs.Running.{Run, after, stopped, stays, once, run_of, in_turn, on_all, turns_behind, with_turn, act, each_alone, untouched, followed_by, for_each, in_order}
 use Rattle.pm_table.specs.Introductions.{Sides, sides_of, is_blocked, intro_hyp, intro_all, intro_all_fresh, universal_of}

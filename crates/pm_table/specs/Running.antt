@@ -3,7 +3,9 @@ use Rattle.std.specs.Prelude.{ℕ, suc, ◌+◌, ◌*◌, Bool, true, false, Lis
 use Rattle.pm_goal.specs.declared.goal.Goal.{Goal}
 use Rattle.pm_goal.specs.declared.work.Work.{Work}
 use Rattle.pm_goal.specs.declared.refusal.Refusal.{Refusal}
-use Rattle.pm_table.specs.Outcomes.{Place, finished, current, Outcome, gives, refused, Action}
+use Rattle.pm_table.specs.Outcomes.{Outcome, gives, refused, Action}
+use Rattle.pm_table.specs.declared.place.Place.{Place}
+use Rattle.pm_table.specs.declared.place.Place.TheVariants.{Finished as finished, Current as current}
 use Rattle.pm_table.specs.Limits.{work_formulas, all_nodes, limited}
 
 -- where the works of a goal stand after some actions, with a bound on the rules that they take; or the first refusal

@@ -20,7 +20,9 @@ use Rattle.pm_patterns.specs.declared.pattern.Spat as premise_pattern
 use Rattle.pm_patterns.specs.declared.pattern.Spat.TheVariants.{Name, Goal as With, Rest, Persistent, Pure as IsPure, Done}
 use Rattle.pm_classes.specs.Persistence.{is_persistent}
 use Rattle.pm_classes.specs.Classes.{Parts, into_wand, into_forall, from_pure}
-use Rattle.pm_table.specs.Outcomes.{Place, finished, Outcome, gives, Action, closed, one, require, require_plain, require_some, require_entry, joined}
+use Rattle.pm_table.specs.Outcomes.{Outcome, gives, Action, closed, one, require, require_plain, require_some, require_entry, joined}
+use Rattle.pm_table.specs.declared.place.Place.{Place}
+use Rattle.pm_table.specs.declared.place.Place.TheVariants.{Finished as finished}
 use Rattle.pm_table.specs.Works.{Named, hyp_named, fact_named, with_concl, without_named, without_spat, hyps_in, hyps_out, holding, hold, work_of, with_last}
 use Rattle.pm_table.specs.Equality.{formula_eq}
 use Rattle.pm_table.specs.Basic.{is_truth, all_spatial, is_done}
