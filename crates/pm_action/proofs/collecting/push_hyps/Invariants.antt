@@ -1,0 +1,9 @@
+use Rattle.std.proofs.Common.{◌-◌}
+use Rattle.pm_star.proofs.Pushes.{IsPushed}
+use Rattle.pm_action.proofs.collecting.push_hyps.Given as goal
+
+abbrev pub invariant-loop-next : goal.invariant-loop-next
+invariant-loop-next l = IsPushed (λ h. h.formula) l.list l.next l.initial.out l.out
+
+abbrev pub decreases-loop-next : goal.decreases-loop-next
+decreases-loop-next l = l.len - l.next

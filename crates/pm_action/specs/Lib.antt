@@ -1,0 +1,3 @@
+pub mod Naming
+pub mod Meanings
+pub mod Acting
