@@ -40,7 +40,7 @@ use Rattle.pm_table.specs.Introductions.{Sides, sides_of, is_blocked, universal_
 use Rattle.pm_table.specs.Destructs as destructs
 use Rattle.pm_table.specs.Destructs.{var_name, into_parts, with_hand, name_held, name_fresh, drop_held, both_parts, body_held, one_part, fourth_way, third_way, parts_or, is_drop, boxed_part, either, absurd_held, is_falsehood, to_pure, to_pure_fresh, to_int, to_spat}
 use Rattle.pm_table.specs.Basic as basic
-use Rattle.pm_table.specs.Basic.{on_goal, for, is_truth, split_parts, star_parts, or_parts, body_of_ex, list_given, is_exact, is_hypothesis, is_fact, reverted, mentions, with_spats, split, split_at, sides, side, exists, exfalso, exact, assumption, done, try_done, is_done, clear, rename, renamed, with_renamed, revert, revert_var, without_var, names_but, chosen, unchosen}
+use Rattle.pm_table.specs.Basic.{on_goal, resting_only, for, is_truth, split_parts, star_parts, or_parts, body_of_ex, list_given, is_exact, is_hypothesis, is_fact, reverted, mentions, with_spats, split, split_at, sides, side, exists, exfalso, exact, assumption, done, try_done, is_done, clear, rename, renamed, with_renamed, revert, revert_var, without_var, names_but, chosen, unchosen}
 use Rattle.pm_table.specs.Patterns.{opening, intro_one, intro_var_or_hyp}
 use Rattle.pm_table.specs.Modalities.{under_update, Modality, passed, acted, mod_intro, later, head_intro, next, elim_update, modality_of}
 use Rattle.pm_table.specs.Rewriting.{Equation, equation_of, rewritten, rewritten_pure, occurs, occurs_in_pure, subst_held, rewritten_goal, put_fact, put_fact_in, rewrite_concl, rewrite_hyp, rewrite_fact, rewrite_at, rewrite, pure_intro, cases}
@@ -334,7 +334,7 @@ frame_member_keeps x w h = require_some_in Apart (held_as x w.goal) _ _ _ (λ he
 
 -- ---- goals
 
-split_keeps : (w : Work) → Apart w → InOutcome Apart (on_goal split w)
+split_keeps : (w : Work) → Apart w → InOutcome Apart (split w.goal)
 split_keeps w h = require_entry_in Apart (split_parts w.goal.concl) _ _ (λ p e. (h, (h, tt)))
 
 chosen_fewer : (list : Option (List Named)) (hs : List Hyp) → Fewer (hyp_names (chosen list hs)) (hyp_names hs)
@@ -349,40 +349,40 @@ sides_keep : (left : Bool) (p : Parts) (list : Option (List Named)) (g : Goal) �
 sides_keep true p list g h = (with_spats_names (chosen list g.spats) g (chosen_fewer list g.spats) h, (with_spats_names (unchosen list g.spats) g (unchosen_fewer list g.spats) h, tt))
 sides_keep false p list g h = (with_spats_names (unchosen list g.spats) g (unchosen_fewer list g.spats) h, (with_spats_names (chosen list g.spats) g (chosen_fewer list g.spats) h, tt))
 
-split_at_keeps : (left : Bool) (list : Option (List Named)) (w : Work) → Apart w → InOutcome Apart (on_goal (split_at left list) w)
+split_at_keeps : (left : Bool) (list : Option (List Named)) (w : Work) → Apart w → InOutcome Apart (split_at left list w.goal)
 split_at_keeps left list w h = require_entry_in Apart (star_parts w.goal.concl) _ _ (λ p e. all_spatial_in Apart w.goal (list_given list) _ (sides_keep left p list w.goal h))
 
-side_keeps : (left : Bool) (w : Work) → Apart w → InOutcome Apart (on_goal (side left) w)
+side_keeps : (left : Bool) (w : Work) → Apart w → InOutcome Apart (side left w.goal)
 side_keeps left w h = require_entry_in Apart (or_parts w.goal.concl) _ _ (λ p e. (h, tt))
 
-exists_keeps : (t : Term) (w : Work) → Apart w → InOutcome Apart (on_goal (exists t) w)
+exists_keeps : (t : Term) (w : Work) → Apart w → InOutcome Apart (exists t w.goal)
 exists_keeps t w h = require_entry_in Apart (body_of_ex w.goal.concl) _ _ (λ b e. (h, tt))
 
-exfalso_keeps : (w : Work) → Apart w → InOutcome Apart (on_goal exfalso w)
+exfalso_keeps : (w : Work) → Apart w → InOutcome Apart (exfalso w.goal)
 exfalso_keeps w h = (h, tt)
 
-exact_keeps : (x : Named) (w : Work) → Apart w → InOutcome Apart (on_goal (exact x) w)
+exact_keeps : (x : Named) (w : Work) → Apart w → InOutcome Apart (exact x w.goal)
 exact_keeps x w h = require_in Apart (has_hyp_or_fact w.goal x) _ _ _ (λ e. require_plain_in Apart (is_exact x w.goal) _ _ (λ f. tt))
 
-assumption_keeps : (w : Work) → Apart w → InOutcome Apart (on_goal assumption w)
+assumption_keeps : (w : Work) → Apart w → InOutcome Apart (assumption w.goal)
 assumption_keeps w h = require_plain_in Apart (is_hypothesis w.goal || is_fact w.goal) _ _ (λ e. tt)
 
-done_keeps : (w : Work) → Apart w → InOutcome Apart (on_goal done w)
+done_keeps : (w : Work) → Apart w → InOutcome Apart (done w.goal)
 done_keeps w h = require_plain_in Apart (is_done w.goal) _ _ (λ e. tt)
 
-try_done_keeps : (w : Work) → Apart w → InOutcome Apart (on_goal try_done w)
+try_done_keeps : (w : Work) → Apart w → InOutcome Apart (try_done w.goal)
 try_done_keeps w h = chosen_in Apart (is_done w.goal) _ _ (λ e. tt) (λ e. (h, tt))
 
-clear_keeps : (x : Named) (w : Work) → Apart w → InOutcome Apart (on_goal (clear x) w)
+clear_keeps : (x : Named) (w : Work) → Apart w → InOutcome Apart (clear x w.goal)
 clear_keeps x w h = require_in Apart (has_hyp_or_fact w.goal x) _ _ _ (λ e. (without_names x w.goal h, tt))
 
-rename_keeps : (x y : Named) (w : Work) → Apart w → InOutcome Apart (on_goal (rename x y) w)
+rename_keeps : (x y : Named) (w : Work) → Apart w → InOutcome Apart (rename x y w.goal)
 rename_keeps x y w h = require_in Apart (has_hyp_or_fact w.goal x) _ _ _ (λ e. require_in Apart (fits w.goal y) _ _ _ (λ free. (rename_names x y w.goal free h, tt)))
 
-revert_keeps : (x : Named) (w : Work) → Apart w → InOutcome Apart (on_goal (revert x) w)
+revert_keeps : (x : Named) (w : Work) → Apart w → InOutcome Apart (revert x w.goal)
 revert_keeps x w h = require_some_in Apart (reverted x w.goal) _ _ _ (λ a e. (without_names x w.goal h, tt))
 
-revert_var_keeps : (x : Named) (w : Work) → Apart w → InOutcome Apart (on_goal (revert_var x) w)
+revert_var_keeps : (x : Named) (w : Work) → Apart w → InOutcome Apart (revert_var x w.goal)
 revert_var_keeps x w h = require_some_in Apart (index_named x w.goal.vars) _ _ _ (λ i e. require_plain_in Apart (not (mentions i w.goal)) _ _ (λ f. (without_var_keeps x i w.goal h, tt)))
 
 -- ---- modalities
@@ -407,34 +407,34 @@ mod_intro_keeps : (m : Modality) (g : Goal) → NamesDiffer g → InOutcome Apar
 mod_intro_keeps m g h = require_entry_in Apart (m.strip g.concl) _ _ (λ c e. require_entry_in Apart (passed m m.intuitionistic g.ints) _ _ (λ ints f. require_entry_in Apart (passed m m.spatial g.spats) _ _ (λ spats i.
     (differ_still (acted g ints spats c) g (fewer_names (acted g ints spats c) g (same g.vars) (same (fact_names g.pures)) (passed_names m m.intuitionistic g.ints ints f) (passed_names m m.spatial g.spats spats i)) h, tt))))
 
-head_intro_keeps : (w : Work) → Apart w → InOutcome Apart (on_goal head_intro w)
+head_intro_keeps : (w : Work) → Apart w → InOutcome Apart (head_intro w.goal)
 head_intro_keeps w h = require_entry_in Apart (modality_of w.goal.concl) _ _ (λ m e. mod_intro_keeps m w.goal h)
 
-next_keeps : (w : Work) → Apart w → InOutcome Apart (on_goal next w)
+next_keeps : (w : Work) → Apart w → InOutcome Apart (next w.goal)
 next_keeps w h = mod_intro_keeps later w.goal h
 
 -- ---- points-to, induction, equations
 
-combine_keeps : (x y : Named) (w : Work) → Apart w → InOutcome Apart (on_goal (combine_held x y) w)
+combine_keeps : (x y : Named) (w : Work) → Apart w → InOutcome Apart (combine_held x y w.goal)
 combine_keeps x y w h = all_spatial_in Apart w.goal (x ∷ y ∷ []) _ (require_some_in Apart (hyp_named x w.goal.spats) _ _ _ (λ f e. require_some_in Apart (hyp_named y w.goal.spats) _ _ _ (λ g i. chosen_in Apart (is_falsehood (combine f g)) _ _ (λ j. tt) (λ j. (with_spats_names (hyps_out (x ∷ y ∷ []) w.goal.spats) w.goal (fewer_hyps (λ f. not (is_listed (x ∷ y ∷ []) f.name)) w.goal.spats) h, tt)))))
 
-write_keeps : (x : Named) (t : Term) (w : Work) → Apart w → InOutcome Apart (on_goal (write x t) w)
+write_keeps : (x : Named) (t : Term) (w : Work) → Apart w → InOutcome Apart (write x t w.goal)
 write_keeps x t w h = require_in Apart (has_hyp w.goal x) _ _ _ (λ e. require_some_in Apart (hyp_named x w.goal.spats) _ _ _ (λ f i. require_entry_in Apart (full_location f) _ _ (λ l j. require_plain_in Apart (is_some (under_update w.goal.concl)) _ _ (λ k. (put_keeps x (Pts l UNIT t) w.goal h, tt)))))
 
-allocate_keeps : (t : Term) (l : Named) (w : Work) → Apart w → InOutcome Apart (on_goal (allocate t l) w)
+allocate_keeps : (t : Term) (l : Named) (w : Work) → Apart w → InOutcome Apart (allocate t l w.goal)
 allocate_keeps t l w h = require_plain_in Apart (is_some (under_update w.goal.concl)) _ _ (λ e. require_in Apart (fits w.goal l) _ _ _ (λ free. (differ_with l (with_var l (shift_of w.goal.concl) w.goal) w.goal (more_var l (shift_of w.goal.concl) w.goal) free h, tt)))
 
-loeb_keeps : (x : Named) (w : Work) → Apart w → InOutcome Apart (on_goal (loeb x) w)
+loeb_keeps : (x : Named) (w : Work) → Apart w → InOutcome Apart (loeb x w.goal)
 loeb_keeps x w h = require_in Apart (fits w.goal x) _ _ _ (λ free. (differ_with x (with_int x (Later (wands w.goal.spats w.goal.concl)) w.goal) w.goal (more_int x (Later (wands w.goal.spats w.goal.concl)) w.goal) free h, tt))
 
-unfold_keeps : (preds : Preds) (x : Option Named) (w : Work) → Apart w → InOutcome Apart (on_goal (unfold_call preds x) w)
+unfold_keeps : (preds : Preds) (x : Option Named) (w : Work) → Apart w → InOutcome Apart (unfold_call preds x w.goal)
 unfold_keeps preds None w h = require_entry_in Apart (body_of_call preds w.goal.concl) _ _ (λ b e. (h, tt))
 unfold_keeps preds (Some x) w h = require_some_in Apart (formula_named x w.goal) _ _ _ (λ f e. require_entry_in Apart (body_of_call preds f) _ _ (λ b i. (put_keeps x b w.goal h, tt)))
 
-fold_keeps : (preds : Preds) (f : Formula) (x : Named) (w : Work) → Apart w → InOutcome Apart (on_goal (fold_call preds f x) w)
+fold_keeps : (preds : Preds) (f : Formula) (x : Named) (w : Work) → Apart w → InOutcome Apart (fold_call preds f x w.goal)
 fold_keeps preds f x w h = require_entry_in Apart (body_of_call preds f) _ _ (λ b e. require_some_in Apart (formula_named x w.goal) _ _ _ (λ g i. require_plain_in Apart (formula_eq g b) _ _ (λ j. (put_keeps x f w.goal h, tt))))
 
-pure_intro_keeps : (w : Work) → Apart w → InOutcome Apart (on_goal pure_intro w)
+pure_intro_keeps : (w : Work) → Apart w → InOutcome Apart (pure_intro w.goal)
 pure_intro_keeps w h = require_entry_in Apart (from_pure w.goal.concl) _ _ (λ p e. (differ_still (record w.goal { ints = []; spats = []; concl = Assert p }) w.goal (fewer_names (record w.goal { ints = []; spats = []; concl = Assert p }) w.goal (same w.goal.vars) (same (fact_names w.goal.pures)) (none_are_fewer (hyp_names w.goal.ints)) (none_are_fewer (hyp_names w.goal.spats))) h, tt))
 
 rewrite_at_keeps : (e : Equation) (target : Option Named) (g : Goal) → NamesDiffer g → InOutcome Apart (rewrite_at e target g)
@@ -443,16 +443,16 @@ rewrite_at_keeps e (Some x) g h = chosen_in Apart (has_fact g x) _ _
     (λ i. require_some_in Apart (fact_named x g.pures) _ _ _ (λ p j. require_plain_in Apart (occurs_in_pure e p) _ _ (λ k. (put_fact_keeps x (rewritten_pure e p) g h, tt))))
     (λ i. require_some_in Apart (formula_named x g) _ _ _ (λ f j. require_plain_in Apart (occurs e f) _ _ (λ k. (put_keeps x (rewritten e f) g h, tt))))
 
-rewrite_keeps : (back : Bool) (x : Named) (target : Option Named) (w : Work) → Apart w → InOutcome Apart (on_goal (rewrite back x target) w)
+rewrite_keeps : (back : Bool) (x : Named) (target : Option Named) (w : Work) → Apart w → InOutcome Apart (rewrite back x target w.goal)
 rewrite_keeps back x target w h = require_some_in Apart (fact_named x w.goal.pures) _ _ _ (λ p e. require_entry_in Apart (equation_of back p) _ _ (λ q i. rewrite_at_keeps q target w.goal h))
 
-cases_keeps : (p : P.Pure) (x : Named) (w : Work) → Apart w → InOutcome Apart (on_goal (cases p x) w)
+cases_keeps : (p : P.Pure) (x : Named) (w : Work) → Apart w → InOutcome Apart (cases p x w.goal)
 cases_keeps p x w h = require_in Apart (fits w.goal x) _ _ _ (λ free. (differ_with x (with_fact x p w.goal) w.goal (more_fact x p w.goal) free h, (differ_with x (with_fact x (nope p) w.goal) w.goal (more_fact x (nope p) w.goal) free h, tt)))
 
-linear_keeps : (w : Work) → Apart w → InOutcome Apart (on_goal linear w)
+linear_keeps : (w : Work) → Apart w → InOutcome Apart (linear w.goal)
 linear_keeps w h = require_entry_in Apart (linear_conclusion w.goal.concl) _ _ (λ g e. require_plain_in Apart (are_small g) _ _ (λ i. require_plain_in Apart (in_box (atoms w.goal.pures) g) _ _ (λ j. tt)))
 
-linear_with_keeps : (certs : List Cert) (w : Work) → Apart w → InOutcome Apart (on_goal (linear_with certs) w)
+linear_with_keeps : (certs : List Cert) (w : Work) → Apart w → InOutcome Apart (linear_with certs w.goal)
 linear_with_keeps certs w h = require_entry_in Apart (linear_conclusion w.goal.concl) _ _ (λ g e. require_plain_in Apart (are_small g) _ _ (λ i. require_plain_in Apart (length certs == length (readings g)) _ _ (λ j. refuse_where_in Apart (find (λ n. not (has_fact w.goal n)) (flat_map names_of_cert certs)) _ _ (refuse_where_in Apart (given_twice certs) _ _ (refuse_where_in Apart (find (λ n. not (fact_passes is_atom w.goal n)) (flat_map names_of_cert certs)) _ _ (require_plain_in Apart (list_all (fact_passes are_small w.goal) (flat_map names_of_cert certs)) _ _ (λ k. require_plain_in Apart (certify w.goal certs (readings g)) _ _ (λ l. tt))))))))
 
 -- ---- steps
@@ -464,7 +464,14 @@ module _ (preds : Preds) (lemmas : Lemmas) where
   opening_fine : (action : Action) → ((w : Work) → Apart w → InOutcome Apart (action w)) → Good Apart (opening (true ∷ []) action)
   opening_fine action keeps w h = good Apart (opening (true ∷ []) action) (λ v i. opening_in Apart (true ∷ []) (action v) (keeps v i)) w h
 
-  actions : ActionsKeep apart preds lemmas
+  rests : (hs : List Held) (o q : Outcome) → InOutcome Apart o → InOutcome Apart q → InOutcome Apart (resting_only hs o q)
+  rests [] o q h g = h
+  rests (x ∷ hs) o q h g = g
+
+  goal_fine : (action : Goal → Outcome) → ((w : Work) → Apart w → InOutcome Apart (action w.goal)) → Good Apart (on_goal action)
+  goal_fine action keeps w h = good Apart (on_goal action) (λ v i. rests v.held (action v.goal) (one v) (keeps v i) (i, tt)) w h
+
+  pub actions : ActionsKeep apart preds lemmas
   actions = record {
     stay = fine one stay_keeps;
     intro_one = λ p. fine (intro_one p) (intro_one_keeps p);
@@ -492,31 +499,31 @@ module _ (preds : Preds) (lemmas : Lemmas) where
     apply = fine apply apply_keeps;
     frame_named = λ x. fine (frame_named x) (frame_named_keeps x);
     frame_member = λ x. fine (frame_member x) (frame_member_keeps x);
-    split = fine (on_goal split) split_keeps;
-    split_at = λ left list. fine (on_goal (split_at left list)) (split_at_keeps left list);
-    side = λ left. fine (on_goal (side left)) (side_keeps left);
-    exists = λ t i. fine (on_goal (exists t)) (exists_keeps t);
-    exfalso = fine (on_goal exfalso) exfalso_keeps;
-    exact = λ x. fine (on_goal (exact x)) (exact_keeps x);
-    assumption = fine (on_goal assumption) assumption_keeps;
-    done = fine (on_goal done) done_keeps;
-    try_done = fine (on_goal try_done) try_done_keeps;
-    clear = λ x. fine (on_goal (clear x)) (clear_keeps x);
-    rename = λ x y. fine (on_goal (rename x y)) (rename_keeps x y);
-    revert = λ x. fine (on_goal (revert x)) (revert_keeps x);
-    head_intro = fine (on_goal head_intro) head_intro_keeps;
-    next = fine (on_goal next) next_keeps;
-    combine_held = λ x y. fine (on_goal (combine_held x y)) (combine_keeps x y);
-    write = λ x t i. fine (on_goal (write x t)) (write_keeps x t);
-    allocate = λ t l i. fine (on_goal (allocate t l)) (allocate_keeps t l);
-    loeb = λ x. fine (on_goal (loeb x)) (loeb_keeps x);
-    unfold_call = λ x. fine (on_goal (unfold_call preds x)) (unfold_keeps preds x);
-    fold_call = λ f x i. fine (on_goal (fold_call preds f x)) (fold_keeps preds f x);
-    pure_intro = fine (on_goal pure_intro) pure_intro_keeps;
-    rewrite = λ back x target. fine (on_goal (rewrite back x target)) (rewrite_keeps back x target);
-    cases = λ p x i. fine (on_goal (cases p x)) (cases_keeps p x);
-    linear = fine (on_goal linear) linear_keeps;
-    linear_with = λ certs. fine (on_goal (linear_with certs)) (linear_with_keeps certs);
+    split = goal_fine split split_keeps;
+    split_at = λ left list. goal_fine (split_at left list) (split_at_keeps left list);
+    side = λ left. goal_fine (side left) (side_keeps left);
+    exists = λ t i. goal_fine (exists t) (exists_keeps t);
+    exfalso = goal_fine exfalso exfalso_keeps;
+    exact = λ x. goal_fine (exact x) (exact_keeps x);
+    assumption = goal_fine assumption assumption_keeps;
+    done = goal_fine done done_keeps;
+    try_done = goal_fine try_done try_done_keeps;
+    clear = λ x. goal_fine (clear x) (clear_keeps x);
+    rename = λ x y. goal_fine (rename x y) (rename_keeps x y);
+    revert = λ x. goal_fine (revert x) (revert_keeps x);
+    head_intro = goal_fine head_intro head_intro_keeps;
+    next = goal_fine next next_keeps;
+    combine_held = λ x y. goal_fine (combine_held x y) (combine_keeps x y);
+    write = λ x t i. goal_fine (write x t) (write_keeps x t);
+    allocate = λ t l i. goal_fine (allocate t l) (allocate_keeps t l);
+    loeb = λ x. goal_fine (loeb x) (loeb_keeps x);
+    unfold_call = λ x. goal_fine (unfold_call preds x) (unfold_keeps preds x);
+    fold_call = λ f x i. goal_fine (fold_call preds f x) (fold_keeps preds f x);
+    pure_intro = goal_fine pure_intro pure_intro_keeps;
+    rewrite = λ back x target. goal_fine (rewrite back x target) (rewrite_keeps back x target);
+    cases = λ p x i. goal_fine (cases p x) (cases_keeps p x);
+    linear = goal_fine linear linear_keeps;
+    linear_with = λ certs. goal_fine (linear_with certs) (linear_with_keeps certs);
   }
 
   handed : (directive : Directive) → Handed apart directive
@@ -526,7 +533,7 @@ module _ (preds : Preds) (lemmas : Lemmas) where
   handed (d.Specialize t) = anything t.terms
   handed (d.Apply t) = anything t.terms
   handed (d.Exists ts) = anything ts
-  handed (d.Revert xs sels) = λ x. fine (on_goal (revert_var x)) (revert_var_keeps x)
+  handed (d.Revert xs sels) = λ x. goal_fine (revert_var x) (revert_var_keeps x)
   handed (d.Mod t p) = anything t.terms
   handed _ = tt
 

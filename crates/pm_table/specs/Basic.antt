@@ -14,6 +14,7 @@ use Rattle.pm_logic.specs.Substitution.{in_pure, in_formula, opened_of}
 use Rattle.pm_goal.specs.declared.goal.Hyp.{Hyp}
 use Rattle.pm_goal.specs.declared.goal.Fact.{Fact}
 use Rattle.pm_goal.specs.declared.goal.Goal.{Goal}
+use Rattle.pm_goal.specs.declared.work.Held.{Held}
 use Rattle.pm_goal.specs.declared.refusal.Row.{Row}
 use Rattle.pm_goal.specs.declared.refusal.Row.TheVariants.{NoSuchHypothesis, NameInUse, NotSpatial, NameGivenTwice, NoSuchVariable, ConclusionNotSplit, ConclusionNotStar, ConclusionNotDisjunction, ConclusionNotExistential, NotTheConclusion, NoAssumption, NotDone, VariableMentioned}
 use Rattle.pm_goal.specs.Find.{first_of_two}
@@ -33,9 +34,13 @@ for c goal = with_concl c goal
 abbrev pub with_spats : List Hyp → Goal → Goal
 with_spats hs goal = record goal { spats = hs }
 
--- an action on the goal
+-- an action on the goal of a work with nothing in hand; where something is, nothing changes
+abbrev pub resting_only : List Held → Outcome → Outcome → Outcome
+resting_only [] acted stays = acted
+resting_only (h ∷ hs) acted stays = stays
+
 abbrev pub on_goal : (Goal → Outcome) → Action
-on_goal action work = action work.goal
+on_goal action work = resting_only work.held (action work.goal) (one work)
 
 abbrev pub gives_goal : Goal → Outcome
 gives_goal goal = one (resting goal)
