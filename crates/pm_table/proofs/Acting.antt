@@ -1,5 +1,5 @@
 -- What all actions keep, every directive keeps.
-use Rattle.std.proofs.Common.{◌≡◌, ℕ, Bool, true, false, cond, List, [], ◌∷◌, ◌++◌, map, reverse, append-nil, refl, sym, subst, Option, Some, None}
+use Rattle.std.proofs.Common.{◌≡◌, ℕ, Bool, true, false, cond, ◌||◌, List, [], ◌∷◌, ◌++◌, map, reverse, append-nil, refl, sym, subst, Option, Some, None}
 use Rattle.pm_logic.specs.declared.formula.Term.{Term}
 use Rattle.pm_logic.specs.declared.formula.Pure as P
 use Rattle.pm_logic.specs.declared.formula.Formula.{Formula}
@@ -23,11 +23,13 @@ use Rattle.pm_patterns.specs.declared.pattern.Pat.TheVariants as pat
 use Rattle.pm_patterns.specs.Patterns as pair
 use Rattle.pm_script.specs.declared.directive.Directive.{Directive}
 use Rattle.pm_script.specs.declared.directive.Directive.TheVariants as d
-use Rattle.pm_table.specs.Outcomes.{Outcome, Action, one, refuse_plain}
+use Rattle.pm_table.specs.Outcomes.{Outcome, Action, one}
 use Rattle.pm_table.specs.declared.place.Place.{Place}
 use Rattle.pm_table.specs.Works.{Named}
-use Rattle.pm_table.specs.Running.{Run, after, once, in_turn, on_all, with_turn, act, act_with, each_alone, untouched, followed_by, for_each, in_order}
-use Rattle.pm_table.specs.Introductions.{sides_of, intro_hyp, intro_all_fresh, universal_of}
+use Rattle.pm_table.specs.Running.{Run, after, once, in_turn, on_all, with_turn, act, act_with, each_alone, for_each, in_order}
+use Rattle.pm_classes.specs.Persistence.{is_persistent}
+use Rattle.pm_goal.specs.declared.refusal.Row.{Row}
+use Rattle.pm_table.specs.Introductions.{is_empty, intro_hyp, intro_all_fresh}
 use Rattle.pm_table.specs.Destructs as destructs
 use Rattle.pm_table.specs.Destructs.{name_held, name_fresh, drop_held, either, absurd_held, to_pure, to_pure_fresh, to_int, to_spat}
 use Rattle.pm_table.specs.Basic.{on_goal, split, split_at, side, exists, exfalso, exact, assumption, done, try_done, clear, rename, revert, revert_var}
@@ -37,10 +39,10 @@ use Rattle.pm_table.specs.Heap.{combine_held, write, allocate}
 use Rattle.pm_table.specs.Loeb.{loeb, unfold_call, fold_call}
 use Rattle.pm_table.specs.Linears.{linear, linear_with}
 use Rattle.pm_table.specs.Terms.{take, lend, lemma, lemma_named, with_term, with_spat, assert, apply, frame_held, frame_named, frame_member}
-use Rattle.pm_table.specs.Patterns.{opening, turn, destruct, destruct_all, fact_names, int_names, spat_names, clear_selected, clear_all_selected, refusing, universals, is_there, intro_alls, intro_fresh, enters, premises, intro_premises, intro_one, intro_pattern, intro, intro_each}
+use Rattle.pm_table.specs.Patterns.{opening, turn, destruct, destruct_all, fact_names, int_names, spat_names, clear_selected, clear_all_selected, run_actions, universals, intro_alls, left_side, premises, intro_premises, intro_one, intro_pattern, intro, intro_each}
 use Rattle.pm_table.specs.Directives.{lemma_nodes, head_run, term_run, is_bare, head_name, frame_selected, sels_or_spats, revert_selected, revert_all, run}
 use Rattle.pm_table.specs.Stepping.{Each}
-use Rattle.pm_table.proofs.Keeping.{Everywhere, InRun, Good, GoodRun, GoodPlaces, after_in, once_in, in_turn_in, on_all_in, act_in, act_with_in, each_alone_in, followed_by_in, for_each_in, in_order_in, everywhere_with_turn, anything}
+use Rattle.pm_table.proofs.Keeping.{Everywhere, InRun, Good, GoodRun, GoodPlaces, after_in, once_in, in_turn_in, on_all_in, act_in, act_with_in, each_alone_in, for_each_in, in_order_in, everywhere_with_turn, anything}
 
 -- what is kept, and what is known of terms, pure formulas and formulas that are handed to actions
 pub record Kept : Type 1 where
@@ -150,7 +152,7 @@ module _ (k : Kept) (preds : Preds) (lemmas : Lemmas) (each : ActionsKeep k pred
 
   -- an action for each of the names that a work has when its turn comes
   group_in : (action : Named → Action) (names : Work → List Named) → ((h : Named) → Good k.holds (action h)) → GoodPlaces k.holds (each_alone (λ w. for_each action (names w) w))
-  group_in action names good ps g = each_alone_in k.holds (λ w. for_each action (names w) w) (λ w i. for_each_in k.holds action good (names w) w i) ps g
+  group_in action names good ps g = each_alone_in k.holds (λ w. for_each action (names w) w) (λ w i. for_each_in k.holds (λ x. Unit {0}) action (λ x j. good x) (names w) (anything (names w)) w i) ps g
 
   clear_selected_in : (s : Sel) → GoodPlaces k.holds (clear_selected s)
   clear_selected_in (sel.Name h) ps g = act_in k.holds (on_goal (clear h)) (each.clear h) ps g
@@ -161,49 +163,55 @@ module _ (k : Kept) (preds : Preds) (lemmas : Lemmas) (each : ActionsKeep k pred
   clear_all_selected_in : (sels : List Sel) → GoodPlaces k.holds (clear_all_selected sels)
   clear_all_selected_in sels ps g = in_order_in k.holds (λ s. Unit {0}) clear_selected (λ s i. clear_selected_in s) sels (anything sels) ps g
 
-  -- where a test chooses between two
-  chosen_in : (b : Bool) (r s : Run) → InRun k.holds r → InRun k.holds s → InRun k.holds (cond b r s)
-  chosen_in true r s h i = h
-  chosen_in false r s h i = i
+  abbrev Keeping : Action → Type 0
+  Keeping action = Good k.holds action
 
-  universals_in : (f : Formula) → GoodRun k.holds (universals f)
-  universals_in (All b) w h = followed_by_in k.holds (once 0 intro_all_fresh w) (universals b) (once_in k.holds 0 intro_all_fresh each.intro_all_fresh w h) (universals_in b)
-  universals_in (Assert p) w h = (h, tt)
-  universals_in (Sep a b) w h = (h, tt)
-  universals_in (Wand a b) w h = (h, tt)
-  universals_in (And a b) w h = (h, tt)
-  universals_in (Or a b) w h = (h, tt)
-  universals_in (Imp a b) w h = (h, tt)
-  universals_in (Ex a) w h = (h, tt)
-  universals_in (Later a) w h = (h, tt)
-  universals_in (Pers a) w h = (h, tt)
-  universals_in (Upd a) w h = (h, tt)
-  universals_in (Pts l u v) w h = (h, tt)
-  universals_in (Call q args) w h = (h, tt)
+  run_actions_in : (row : Row) (actions : List Action) → Each Keeping actions → GoodRun k.holds (run_actions row actions)
+  run_actions_in row [] good w h = tt
+  run_actions_in row (a ∷ as) good w h = for_each_in k.holds Keeping (λ x. x) (λ x i. i) (a ∷ as) good w h
+
+  universals_in : (f : Formula) → Each Keeping (universals f)
+  universals_in (All b) = (each.intro_all_fresh, universals_in b)
+  universals_in (Assert p) = tt
+  universals_in (Sep a b) = tt
+  universals_in (Wand a b) = tt
+  universals_in (And a b) = tt
+  universals_in (Or a b) = tt
+  universals_in (Imp a b) = tt
+  universals_in (Ex a) = tt
+  universals_in (Later a) = tt
+  universals_in (Pers a) = tt
+  universals_in (Upd a) = tt
+  universals_in (Pts l u v) = tt
+  universals_in (Call q args) = tt
 
   intro_alls_in : GoodRun k.holds intro_alls
-  intro_alls_in w h = chosen_in (is_there (universal_of w.goal.concl)) (universals w.goal.concl w) (refusing (refuse_plain NoVariableToIntroduce)) (universals_in w.goal.concl w h) tt
+  intro_alls_in w h = run_actions_in NoVariableToIntroduce (universals w.goal.concl) (universals_in w.goal.concl) w h
 
-  intro_fresh_in : (follows : Work → Run) → GoodRun k.holds follows → GoodRun k.holds (intro_fresh follows)
-  intro_fresh_in follows good w h = followed_by_in k.holds (once 0 intro_hyp w) (λ v. followed_by (once 0 name_fresh v) follows) (once_in k.holds 0 intro_hyp each.intro_hyp w h) (λ v i. followed_by_in k.holds (once 0 name_fresh v) follows (once_in k.holds 0 name_fresh each.name_fresh v i) good)
+  left_side_in : (follows : List Action) → Each Keeping follows → Each Keeping (left_side follows)
+  left_side_in follows good = (each.intro_hyp, (each.name_fresh, good))
 
-  premises_in : (f : Formula) → GoodRun k.holds (premises f)
-  premises_in (All b) w h = followed_by_in k.holds (once 0 intro_all_fresh w) (premises b) (once_in k.holds 0 intro_all_fresh each.intro_all_fresh w h) (premises_in b)
-  premises_in (Wand a b) w h = intro_fresh_in (premises b) (premises_in b) w h
-  premises_in (Imp a b) w h = chosen_in (enters w) (intro_fresh (premises b) w) (untouched w) (intro_fresh_in (premises b) (premises_in b) w h) (h, tt)
-  premises_in (Assert p) w h = (h, tt)
-  premises_in (Sep a b) w h = (h, tt)
-  premises_in (And a b) w h = (h, tt)
-  premises_in (Or a b) w h = (h, tt)
-  premises_in (Ex a) w h = (h, tt)
-  premises_in (Later a) w h = (h, tt)
-  premises_in (Pers a) w h = (h, tt)
-  premises_in (Upd a) w h = (h, tt)
-  premises_in (Pts l u v) w h = (h, tt)
-  premises_in (Call q args) w h = (h, tt)
+  where_true : (b : Bool) (actions : List Action) → Each Keeping actions → Each Keeping (cond b actions [])
+  where_true true actions good = good
+  where_true false actions good = tt
+
+  premises_in : (none : Bool) (f : Formula) → Each Keeping (premises none f)
+  premises_in none (All b) = (each.intro_all_fresh, premises_in none b)
+  premises_in none (Wand a b) = left_side_in (premises false b) (premises_in false b)
+  premises_in none (Imp a b) = where_true (none || is_persistent a) (left_side (premises false b)) (left_side_in (premises false b) (premises_in false b))
+  premises_in none (Assert p) = tt
+  premises_in none (Sep a b) = tt
+  premises_in none (And a b) = tt
+  premises_in none (Or a b) = tt
+  premises_in none (Ex a) = tt
+  premises_in none (Later a) = tt
+  premises_in none (Pers a) = tt
+  premises_in none (Upd a) = tt
+  premises_in none (Pts l u v) = tt
+  premises_in none (Call q args) = tt
 
   intro_premises_in : GoodRun k.holds intro_premises
-  intro_premises_in w h = chosen_in (enters w) (premises w.goal.concl w) (refusing (refuse_plain NoHypothesisToIntroduce)) (premises_in w.goal.concl w h) tt
+  intro_premises_in w h = run_actions_in NoHypothesisToIntroduce (premises (is_empty w.goal.spats) w.goal.concl) (premises_in (is_empty w.goal.spats) w.goal.concl) w h
 
   intro_pattern_in : (p : Pat) → GoodPlaces k.holds (intro_pattern p)
   intro_pattern_in p ps g = after_in k.holds (act (intro_one p) ps) (destruct p) (act_in k.holds (intro_one p) (each.intro_one p) ps g) (destruct_in p)

@@ -7,7 +7,7 @@ use Rattle.pm_table.specs.Outcomes.{Outcome, gives, refused, Action}
 use Rattle.pm_table.specs.declared.place.Place.{Place}
 use Rattle.pm_table.specs.declared.place.Place.TheVariants.{Finished as finished, Current as current}
 use Rattle.pm_table.specs.Limits.{work_at, limited}
-use Rattle.pm_table.specs.Running.{Run, ran, stopped, adding, after, beside_places, beside, on_all, stays, run_of, once, turns_behind, keeping_turns, in_place, in_turn, with_turn, act_with, act, each_alone, untouched, followed_by, for_each, in_order}
+use Rattle.pm_table.specs.Running.{Run, ran, stopped, adding, after, beside_places, beside, on_all, stays, run_of, once, turns_behind, keeping_turns, in_place, in_turn, with_turn, act_with, act, each_alone, for_each, in_order}
 use Rattle.pm_table.specs.Stepping.{Each}
 
 -- of works, what holds of each place
@@ -105,13 +105,6 @@ act_with_in P n action good ps h = each_alone_in P (once n action) (once_in P n 
 pub act_in : (P : Work → Type 0) (action : Action) → Good P action → GoodPlaces P (act action)
 act_in P action good ps h = act_with_in P 0 action good ps h
 
-pub followed_by_in : (P : Work → Type 0) (r : Run) (next : Work → Run) → InRun P r → GoodRun P next → InRun P (followed_by r next)
-followed_by_in P r next h good = after_in P r (each_alone next) h (each_alone_in P next good)
-
-pub for_each_in : {A : Type 0} (P : Work → Type 0) (action : A → Action) → ((x : A) → Good P (action x)) → (xs : List A) → GoodRun P (for_each action xs)
-for_each_in P action good [] w h = (h, tt)
-for_each_in P action good (x ∷ xs) w h = followed_by_in P (once 0 (action x) w) (for_each action xs) (once_in P 0 (action x) (good x) w h) (for_each_in P action good xs)
-
 -- with a condition on each item
 pub in_order_in : {A : Type 0} (P : Work → Type 0) (T : A → Type 0) (step : A → List Place → Run) → ((x : A) → T x → GoodPlaces P (step x)) → (xs : List A) → Each T xs → GoodPlaces P (in_order step xs)
 in_order_in P T step good [] given ps h = h
@@ -120,3 +113,6 @@ in_order_in P T step good (x ∷ xs) given ps h = after_in P (step x ps) (in_ord
 pub anything : {A : Type 0} → (xs : List A) → Each (λ x. Unit {0}) xs
 anything [] = tt
 anything (x ∷ xs) = (tt, anything xs)
+
+pub for_each_in : {A : Type 0} (P : Work → Type 0) (T : A → Type 0) (action : A → Action) → ((x : A) → T x → Good P (action x)) → (xs : List A) → Each T xs → GoodRun P (for_each action xs)
+for_each_in P T action good xs given w h = in_order_in P T (λ x. act (action x)) (λ x i. act_in P (action x) (good x i)) xs given (current [] w ∷ []) (h, tt)

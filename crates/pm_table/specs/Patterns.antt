@@ -1,5 +1,5 @@
 -- Patterns, run on works. An action runs on all works that it is for, from left to right, before the next one runs.
-use Rattle.std.specs.Prelude.{ℕ, Bool, true, false, ◌&&◌, not, List, [], ◌∷◌, map, reverse, if◌then◌else◌, Option, Some, None}
+use Rattle.std.specs.Prelude.{ℕ, Bool, true, false, ◌||◌, List, [], ◌∷◌, map, reverse, if◌then◌else◌, Option, Some, None}
 use Rattle.pm_logic.specs.declared.formula.Formula.{Formula}
 use Rattle.pm_logic.specs.Trees.{Wand, Imp, All}
 use Rattle.pm_goal.specs.declared.goal.Goal.{Goal}
@@ -16,8 +16,9 @@ use Rattle.pm_table.specs.Outcomes.{Outcome, refuse_plain, Action, gives, refuse
 use Rattle.pm_table.specs.declared.place.Place.{Place}
 use Rattle.pm_table.specs.declared.place.Place.TheVariants.{Current as current}
 use Rattle.pm_table.specs.Works.{Named}
-use Rattle.pm_table.specs.Running.{Run, after, stopped, stays, once, run_of, in_turn, on_all, turns_behind, with_turn, act, each_alone, untouched, followed_by, for_each, in_order}
-use Rattle.pm_table.specs.Introductions.{Sides, sides_of, is_blocked, intro_hyp, intro_all, intro_all_fresh, universal_of}
+use Rattle.pm_table.specs.Running.{Run, after, stopped, stays, once, run_of, in_turn, on_all, turns_behind, with_turn, act, each_alone, for_each, in_order}
+use Rattle.pm_goal.specs.declared.refusal.Row.{Row}
+use Rattle.pm_table.specs.Introductions.{is_empty, intro_hyp, intro_all, intro_all_fresh, universal_of}
 use Rattle.pm_table.specs.Destructs.{var_name, name_held, name_fresh, drop_held, pair, either, absurd_held, to_pure, to_pure_fresh, to_int, to_spat}
 use Rattle.pm_table.specs.Basic.{on_goal, clear, try_done}
 use Rattle.pm_table.specs.Modalities.{head_intro, elim_update}
@@ -90,41 +91,33 @@ clear_all_selected sels ps = in_order clear_selected sels ps
 abbrev pub refusing : Outcome → Run
 refusing o = run_of 0 o
 
--- `*`: universals, while there are some
-abbrev pub universals : Formula → Work → Run
-universals (All b) work = followed_by (once 0 intro_all_fresh work) (universals b)
-universals _ work = untouched work
+-- the actions, in order; where there are none, the row
+abbrev pub run_actions : Row → List Action → Work → Run
+run_actions row [] work = refusing (refuse_plain row)
+run_actions row (a ∷ as) work = for_each (λ x. x) (a ∷ as) work
 
-abbrev pub is_there : {A : Type 0} → Option A → Bool
-is_there (Some x) = true
-is_there None = false
+-- `*`: universals, while there are some
+abbrev pub universals : Formula → List Action
+universals (All b) = intro_all_fresh ∷ universals b
+universals _ = []
 
 abbrev pub intro_alls : Work → Run
-intro_alls work =
-    if is_there (universal_of work.goal.concl) then universals work.goal.concl work else refusing (refuse_plain NoVariableToIntroduce)
+intro_alls work = run_actions NoVariableToIntroduce (universals work.goal.concl) work
 
 -- a left side, which is held and named
-abbrev pub intro_fresh : (Work → Run) → Work → Run
-intro_fresh follows work = followed_by (once 0 intro_hyp work) (λ w. followed_by (once 0 name_fresh w) follows)
+abbrev pub left_side : List Action → List Action
+left_side follows = intro_hyp ∷ name_fresh ∷ follows
 
--- whether a left side can be introduced, or a variable
-abbrev pub can_enter : Goal → Option Sides → Bool
-can_enter goal None = is_there (universal_of goal.concl)
-can_enter goal (Some s) = not (is_blocked s goal)
-
-abbrev pub enters : Work → Bool
-enters work = can_enter work.goal (sides_of work.goal.concl)
-
--- `**`: universals, wands and implications, one after another, as long as the next one can be introduced
-abbrev pub premises : Formula → Work → Run
-premises (All b) work = followed_by (once 0 intro_all_fresh work) (premises b)
-premises (Wand a b) work = intro_fresh (premises b) work
-premises (Imp a b) work = if enters work then intro_fresh (premises b) work else untouched work
-premises _ work = untouched work
+-- `**`: universals, wands and implications, one after another, as long as the next one can be introduced: a left side becomes a
+-- spatial hypothesis, over which only an implication of a persistent one can be
+abbrev pub premises : (no_spatial : Bool) → Formula → List Action
+premises none (All b) = intro_all_fresh ∷ premises none b
+premises none (Wand a b) = left_side (premises false b)
+premises none (Imp a b) = if none || is_persistent a then left_side (premises false b) else []
+premises none _ = []
 
 abbrev pub intro_premises : Work → Run
-intro_premises work =
-    if enters work then premises work.goal.concl work else refusing (refuse_plain NoHypothesisToIntroduce)
+intro_premises work = run_actions NoHypothesisToIntroduce (premises (is_empty work.goal.spats) work.goal.concl) work
 
 -- a variable where the pattern names one and the conclusion is a universal, and then nothing is left for the pattern; else a left
 -- side, which the pattern destructs

@@ -94,20 +94,11 @@ act action ps = act_with 0 action ps
 abbrev pub each_alone : (Work → Run) → List Place → Run
 each_alone whole ps = on_all (in_place whole) ps
 
--- the work where nothing has been done
-abbrev pub untouched : Work → Run
-untouched work = stays (current [] work)
-
--- first the one action on a work, then what follows on each work that it gives
-abbrev pub followed_by : Run → (Work → Run) → Run
-followed_by r next = after r (each_alone next)
-
--- an action for each item, in order, on one work
-abbrev pub for_each : {A : Type 0} → (A → Action) → List A → Work → Run
-for_each action [] work = untouched work
-for_each action (x ∷ xs) work = followed_by (once 0 (action x) work) (for_each action xs)
-
 -- an act on all works for each item, in order
 abbrev pub in_order : {A : Type 0} → (A → List Place → Run) → List A → List Place → Run
 in_order step [] ps = ran 0 ps
 in_order step (x ∷ xs) ps = after (step x ps) (in_order step xs)
+
+-- an action for each item, in order, on one work
+abbrev pub for_each : {A : Type 0} → (A → Action) → List A → Work → Run
+for_each action xs work = in_order (λ x. act (action x)) xs (current [] work ∷ [])
