@@ -25,7 +25,7 @@ use Rattle.pm_script.specs.declared.directive.Directive.{Directive}
 use Rattle.pm_script.specs.declared.directive.Directive.TheVariants as d
 use Rattle.pm_table.specs.Outcomes.{Outcome, Action, one}
 use Rattle.pm_table.specs.declared.place.Place.{Place}
-use Rattle.pm_table.specs.Works.{Named}
+use Rattle.pm_table.specs.Works.{Named, at_rest}
 use Rattle.pm_table.specs.Running.{Run, after, once, in_turn, on_all, with_turn, act, act_with, each_alone, for_each, in_order}
 use Rattle.pm_classes.specs.Persistence.{is_persistent}
 use Rattle.pm_goal.specs.declared.refusal.Row.{Row}
@@ -42,7 +42,7 @@ use Rattle.pm_table.specs.Terms.{take, lend, lemma, lemma_named, with_term, with
 use Rattle.pm_table.specs.Patterns.{opening, turn, destruct, destruct_all, fact_names, int_names, spat_names, clear_selected, clear_all_selected, run_actions, universals, intro_alls, left_side, premises, intro_premises, intro_one, intro_pattern, intro, intro_each}
 use Rattle.pm_table.specs.Directives.{lemma_nodes, head_run, term_run, is_bare, head_name, frame_selected, sels_or_spats, revert_selected, revert_all, run}
 use Rattle.pm_table.specs.Stepping.{Each}
-use Rattle.pm_table.proofs.Keeping.{Everywhere, InRun, Good, GoodRun, GoodPlaces, after_in, once_in, in_turn_in, on_all_in, act_in, act_with_in, each_alone_in, for_each_in, in_order_in, everywhere_with_turn, anything}
+use Rattle.pm_table.proofs.Keeping.{Everywhere, InRun, Good, GoodRun, GoodPlaces, after_in, once_in, in_turn_in, on_all_in, act_in, act_with_in, each_alone_in, for_each_in, in_order_in, everywhere_with_turn, rest_good, anything}
 
 -- what is kept, and what is known of terms, pure formulas and formulas that are handed to actions
 pub record Kept : Type 1 where
@@ -163,6 +163,9 @@ module _ (k : Kept) (preds : Preds) (lemmas : Lemmas) (each : ActionsKeep k pred
   clear_all_selected_in : (sels : List Sel) → GoodPlaces k.holds (clear_all_selected sels)
   clear_all_selected_in sels ps g = in_order_in k.holds (λ s. Unit {0}) clear_selected (λ s i. clear_selected_in s) sels (anything sels) ps g
 
+  rested : (action : Action) → Good k.holds action → Good k.holds (at_rest action)
+  rested action good = rest_good k.holds action good each.stay
+
   abbrev Keeping : Action → Type 0
   Keeping action = Good k.holds action
 
@@ -171,7 +174,7 @@ module _ (k : Kept) (preds : Preds) (lemmas : Lemmas) (each : ActionsKeep k pred
   run_actions_in row (a ∷ as) good w h = for_each_in k.holds Keeping (λ x. x) (λ x i. i) (a ∷ as) good w h
 
   universals_in : (f : Formula) → Each Keeping (universals f)
-  universals_in (All b) = (each.intro_all_fresh, universals_in b)
+  universals_in (All b) = (rested intro_all_fresh each.intro_all_fresh, universals_in b)
   universals_in (Assert p) = tt
   universals_in (Sep a b) = tt
   universals_in (Wand a b) = tt
@@ -189,14 +192,14 @@ module _ (k : Kept) (preds : Preds) (lemmas : Lemmas) (each : ActionsKeep k pred
   intro_alls_in w h = run_actions_in NoVariableToIntroduce (universals w.goal.concl) (universals_in w.goal.concl) w h
 
   left_side_in : (follows : List Action) → Each Keeping follows → Each Keeping (left_side follows)
-  left_side_in follows good = (each.intro_hyp, (each.name_fresh, good))
+  left_side_in follows good = (rested intro_hyp each.intro_hyp, (each.name_fresh, good))
 
   where_true : (b : Bool) (actions : List Action) → Each Keeping actions → Each Keeping (cond b actions [])
   where_true true actions good = good
   where_true false actions good = tt
 
   premises_in : (none : Bool) (f : Formula) → Each Keeping (premises none f)
-  premises_in none (All b) = (each.intro_all_fresh, premises_in none b)
+  premises_in none (All b) = (rested intro_all_fresh each.intro_all_fresh, premises_in none b)
   premises_in none (Wand a b) = left_side_in (premises false b) (premises_in false b)
   premises_in none (Imp a b) = where_true (none || is_persistent a) (left_side (premises false b)) (left_side_in (premises false b) (premises_in false b))
   premises_in none (Assert p) = tt
@@ -214,7 +217,7 @@ module _ (k : Kept) (preds : Preds) (lemmas : Lemmas) (each : ActionsKeep k pred
   intro_premises_in w h = run_actions_in NoHypothesisToIntroduce (premises (is_empty w.goal.spats) w.goal.concl) (premises_in (is_empty w.goal.spats) w.goal.concl) w h
 
   intro_pattern_in : (p : Pat) → GoodPlaces k.holds (intro_pattern p)
-  intro_pattern_in p ps g = after_in k.holds (act (intro_one p) ps) (destruct p) (act_in k.holds (intro_one p) (each.intro_one p) ps g) (destruct_in p)
+  intro_pattern_in p ps g = after_in k.holds (act (at_rest (intro_one p)) ps) (destruct p) (act_in k.holds (at_rest (intro_one p)) (rested (intro_one p) (each.intro_one p)) ps g) (destruct_in p)
 
   intro_in : (p : Pat) → GoodPlaces k.holds (intro p)
   unfolding intro
@@ -239,10 +242,10 @@ module _ (k : Kept) (preds : Preds) (lemmas : Lemmas) (each : ActionsKeep k pred
   intro_in pat.RewriteBack ps g = intro_pattern_in pat.RewriteBack ps g
 
   head_run_in : (taken : Bool) (h : Head) → GoodPlaces k.holds (head_run lemmas taken h)
-  head_run_in true (head.Hyp h) ps g = act_in k.holds (take h) (each.take h) ps g
-  head_run_in false (head.Hyp h) ps g = act_in k.holds (lend h) (each.lend h) ps g
-  head_run_in true (head.Lemma n) ps g = act_with_in k.holds (lemma_nodes (lemma_named n lemmas.list)) (lemma lemmas n) (each.lemma n) ps g
-  head_run_in false (head.Lemma n) ps g = act_with_in k.holds (lemma_nodes (lemma_named n lemmas.list)) (lemma lemmas n) (each.lemma n) ps g
+  head_run_in true (head.Hyp h) ps g = act_in k.holds (at_rest (take h)) (rested (take h) (each.take h)) ps g
+  head_run_in false (head.Hyp h) ps g = act_in k.holds (at_rest (lend h)) (rested (lend h) (each.lend h)) ps g
+  head_run_in true (head.Lemma n) ps g = act_with_in k.holds (lemma_nodes (lemma_named n lemmas.list)) (at_rest (lemma lemmas n)) (rested (lemma lemmas n) (each.lemma n)) ps g
+  head_run_in false (head.Lemma n) ps g = act_with_in k.holds (lemma_nodes (lemma_named n lemmas.list)) (at_rest (lemma lemmas n)) (rested (lemma lemmas n) (each.lemma n)) ps g
 
   terms_in : (ts : List Term) → Each k.term ts → GoodPlaces k.holds (in_order (λ t. act_with (term_nodes t) (with_term t)) ts)
   terms_in ts given = in_order_in k.holds k.term (λ t. act_with (term_nodes t) (with_term t)) (λ t i. act_with_in k.holds (term_nodes t) (with_term t) (each.with_term t i)) ts given
@@ -282,7 +285,7 @@ module _ (k : Kept) (preds : Preds) (lemmas : Lemmas) (each : ActionsKeep k pred
   run_in (d.PoseProof t p) given ps g = then_destruct (term_run lemmas false t ps) p (term_run_in false t given ps g)
   run_in (d.Specialize t) given ps g = after_in k.holds (term_run lemmas true t ps) (act (name_held (head_name t.head))) (term_run_in true t given ps g) (act_in k.holds (name_held (head_name t.head)) (each.name_held (head_name t.head)))
   run_in (d.Apply t) given ps g = after_in k.holds (term_run lemmas false t ps) (act apply) (term_run_in false t given ps g) (act_in k.holds apply each.apply)
-  run_in (d.Assert f s p) given ps g = then_destruct (act_with (nodes_of f) (assert f s) ps) p (act_with_in k.holds (nodes_of f) (assert f s) (each.assert f s given) ps g)
+  run_in (d.Assert f s p) given ps g = then_destruct (act_with (nodes_of f) (at_rest (assert f s)) ps) p (act_with_in k.holds (nodes_of f) (at_rest (assert f s)) (rested (assert f s) (each.assert f s given)) ps g)
   run_in d.Split given ps g = act_in k.holds (on_goal split) each.split ps g
   run_in (d.SplitL list) given ps g = act_in k.holds (on_goal (split_at true list)) (each.split_at true list) ps g
   run_in (d.SplitR list) given ps g = act_in k.holds (on_goal (split_at false list)) (each.split_at false list) ps g

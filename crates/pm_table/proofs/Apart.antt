@@ -40,7 +40,7 @@ use Rattle.pm_table.specs.Introductions.{Sides, sides_of, is_blocked, universal_
 use Rattle.pm_table.specs.Destructs as destructs
 use Rattle.pm_table.specs.Destructs.{var_name, into_parts, with_hand, name_held, name_fresh, drop_held, both_parts, body_held, one_part, fourth_way, third_way, parts_or, is_drop, boxed_part, either, absurd_held, is_falsehood, to_pure, to_pure_fresh, to_int, to_spat}
 use Rattle.pm_table.specs.Basic as basic
-use Rattle.pm_table.specs.Basic.{on_goal, resting_only, for, is_truth, split_parts, star_parts, or_parts, body_of_ex, list_given, is_exact, is_hypothesis, is_fact, reverted, mentions, with_spats, split, split_at, sides, side, exists, exfalso, exact, assumption, done, try_done, is_done, clear, rename, renamed, with_renamed, revert, revert_var, without_var, names_but, chosen, unchosen}
+use Rattle.pm_table.specs.Basic.{on_goal, for, is_truth, split_parts, star_parts, or_parts, body_of_ex, list_given, is_exact, is_hypothesis, is_fact, reverted, mentions, with_spats, split, split_at, sides, side, exists, exfalso, exact, assumption, done, try_done, is_done, clear, rename, renamed, with_renamed, revert, revert_var, without_var, names_but, chosen, unchosen}
 use Rattle.pm_table.specs.Patterns.{opening, intro_one, intro_var_or_hyp}
 use Rattle.pm_table.specs.Modalities.{under_update, Modality, passed, acted, mod_intro, later, head_intro, next, elim_update, modality_of}
 use Rattle.pm_table.specs.Rewriting.{Equation, equation_of, rewritten, rewritten_pure, occurs, occurs_in_pure, subst_held, rewritten_goal, put_fact, put_fact_in, rewrite_concl, rewrite_hyp, rewrite_fact, rewrite_at, rewrite, pure_intro, cases}
@@ -54,7 +54,7 @@ use Rattle.pm_table.specs.Occurrences.{without}
 use Rattle.pm_table.specs.Terms.{held_as, lemma_named, premises, Step, take, lend, lemma, with_term, with_spat, assert, by_hypothesis, framed, with_these, with_others, by_persistence, by_purity, by_closing, by_pattern, keeping, leaving, picked, picked_framed, after_goal, main, premise_goal, premise_goals, apply, concluding, frame_held, frame_named, frame_member, passing, is_premise}
 use Rattle.pm_table.specs.Directives.{run_on, step}
 use Rattle.pm_table.specs.Stepping.{Each, EachGoal, times, names_of, NamesDiffer, StepsKeepNamesApart}
-use Rattle.pm_table.proofs.Keeping.{Everywhere, InOutcome, Good, anything}
+use Rattle.pm_table.proofs.Keeping.{Everywhere, InOutcome, Good, rest_good, anything}
 use Rattle.pm_table.proofs.Outcomes.{joined_in, good, opening_in, chosen_in, require_in, require_plain_in, require_some_in, require_entry_in, all_spatial_in, with_last_in, refuse_where_in}
 use Rattle.pm_table.proofs.Counting.{fact_names, hyp_names, Fewer, same, fewer_from, none_are_fewer, fewer_hyps, fewer_facts, each_hyp_names, each_fact_names, FewerNames, in_parts, times_in_goal, fewer_names, differ_still, fitting, differ_with, more_hyp, more_int, more_fact, more_var, times_append}
 use Rattle.pm_table.proofs.Acting.{Kept, ActionsKeep, Handed, run_in}
@@ -464,12 +464,8 @@ module _ (preds : Preds) (lemmas : Lemmas) where
   opening_fine : (action : Action) → ((w : Work) → Apart w → InOutcome Apart (action w)) → Good Apart (opening (true ∷ []) action)
   opening_fine action keeps w h = good Apart (opening (true ∷ []) action) (λ v i. opening_in Apart (true ∷ []) (action v) (keeps v i)) w h
 
-  rests : (hs : List Held) (o q : Outcome) → InOutcome Apart o → InOutcome Apart q → InOutcome Apart (resting_only hs o q)
-  rests [] o q h g = h
-  rests (x ∷ hs) o q h g = g
-
   goal_fine : (action : Goal → Outcome) → ((w : Work) → Apart w → InOutcome Apart (action w.goal)) → Good Apart (on_goal action)
-  goal_fine action keeps w h = good Apart (on_goal action) (λ v i. rests v.held (action v.goal) (one v) (keeps v i) (i, tt)) w h
+  goal_fine action keeps w h = rest_good Apart (λ v. action v.goal) (fine (λ v. action v.goal) keeps) (fine one (λ v i. (i, tt))) w h
 
   pub actions : ActionsKeep apart preds lemmas
   actions = record {

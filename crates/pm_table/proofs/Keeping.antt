@@ -1,9 +1,11 @@
 -- What each action keeps, steps keep.
 use Rattle.std.proofs.Common.{◌≡◌, ℕ, zero, suc, Bool, true, false, cond, List, [], ◌∷◌, ◌++◌, map, replicate, refl, sym, subst, Option, Some, None}
 use Rattle.pm_goal.specs.declared.goal.Goal.{Goal}
+use Rattle.pm_goal.specs.declared.work.Held.{Held}
 use Rattle.pm_goal.specs.declared.work.Work.{Work}
 use Rattle.pm_goal.specs.declared.refusal.Row.{Row}
-use Rattle.pm_table.specs.Outcomes.{Outcome, gives, refused, Action}
+use Rattle.pm_table.specs.Works.{where_none, at_rest}
+use Rattle.pm_table.specs.Outcomes.{Outcome, gives, refused, Action, one}
 use Rattle.pm_table.specs.declared.place.Place.{Place}
 use Rattle.pm_table.specs.declared.place.Place.TheVariants.{Finished as finished, Current as current}
 use Rattle.pm_table.specs.Limits.{work_at, limited}
@@ -116,3 +118,11 @@ anything (x ∷ xs) = (tt, anything xs)
 
 pub for_each_in : {A : Type 0} (P : Work → Type 0) (T : A → Type 0) (action : A → Action) → ((x : A) → T x → Good P (action x)) → (xs : List A) → Each T xs → GoodRun P (for_each action xs)
 for_each_in P T action good xs given w h = in_order_in P T (λ x. act (action x)) (λ x i. act_in P (action x) (good x i)) xs given (current [] w ∷ []) (h, tt)
+
+-- an action for works with nothing in hand keeps what it keeps where it acts, and what staying keeps
+rest_in : (P : Work → Type 0) (hs : List Held) (o q : Outcome) → InOutcome P (limited o) → InOutcome P (limited q) → InOutcome P (limited (where_none hs o q))
+rest_in P [] o q h g = h
+rest_in P (x ∷ hs) o q h g = g
+
+pub rest_good : (P : Work → Type 0) (action : Action) → Good P action → Good P one → Good P (at_rest action)
+rest_good P action good stays w h = rest_in P w.held (action w) (one w) (good w h) (stays w h)

@@ -14,7 +14,6 @@ use Rattle.pm_logic.specs.Substitution.{in_pure, in_formula, opened_of}
 use Rattle.pm_goal.specs.declared.goal.Hyp.{Hyp}
 use Rattle.pm_goal.specs.declared.goal.Fact.{Fact}
 use Rattle.pm_goal.specs.declared.goal.Goal.{Goal}
-use Rattle.pm_goal.specs.declared.work.Held.{Held}
 use Rattle.pm_goal.specs.declared.refusal.Row.{Row}
 use Rattle.pm_goal.specs.declared.refusal.Row.TheVariants.{NoSuchHypothesis, NameInUse, NotSpatial, NameGivenTwice, NoSuchVariable, ConclusionNotSplit, ConclusionNotStar, ConclusionNotDisjunction, ConclusionNotExistential, NotTheConclusion, NoAssumption, NotDone, VariableMentioned}
 use Rattle.pm_goal.specs.Find.{first_of_two}
@@ -25,7 +24,7 @@ use Rattle.pm_table.specs.Limits.{resting}
 use Rattle.pm_table.specs.Equality.{pure_eq, formula_eq}
 use Rattle.pm_table.specs.Occurrences.{in_a_pure, in_a_formula, without, to_front}
 use Rattle.pm_table.specs.Destructs.{is_falsehood}
-use Rattle.pm_table.specs.Works.{Named, hyp_named, fact_named, index_named, has_hyp, has_spat, has_hyp_or_fact, fits, is_listed, hyps_in, hyps_out, hyp, fact, each_fact, each_hyp, with_concl, without_named}
+use Rattle.pm_table.specs.Works.{Named, hyp_named, fact_named, index_named, has_hyp, has_spat, has_hyp_or_fact, fits, is_listed, hyps_in, hyps_out, hyp, fact, each_fact, each_hyp, with_concl, without_named, at_rest}
 
 -- the goal with this conclusion, and with these spatial hypotheses
 abbrev pub for : Formula → Goal → Goal
@@ -34,13 +33,9 @@ for c goal = with_concl c goal
 abbrev pub with_spats : List Hyp → Goal → Goal
 with_spats hs goal = record goal { spats = hs }
 
--- an action on the goal of a work with nothing in hand; where something is, nothing changes
-abbrev pub resting_only : List Held → Outcome → Outcome → Outcome
-resting_only [] acted stays = acted
-resting_only (h ∷ hs) acted stays = stays
-
+-- an action on the goal of a work with nothing in hand
 abbrev pub on_goal : (Goal → Outcome) → Action
-on_goal action work = resting_only work.held (action work.goal) (one work)
+on_goal action = at_rest (λ work. action work.goal)
 
 abbrev pub gives_goal : Goal → Outcome
 gives_goal goal = one (resting goal)

@@ -19,7 +19,7 @@ use Rattle.pm_table.specs.Outcomes.{Action}
 use Rattle.pm_table.specs.declared.place.Place.{Place}
 use Rattle.pm_table.specs.declared.place.Place.TheVariants.{Finished as finished, Current as current}
 use Rattle.pm_table.specs.Limits.{resting, work_at}
-use Rattle.pm_table.specs.Works.{Named}
+use Rattle.pm_table.specs.Works.{Named, at_rest}
 use Rattle.pm_table.specs.Running.{Run, ran, stopped, after, act, act_with, each_alone, for_each, in_order}
 use Rattle.pm_table.specs.Introductions.{is_empty}
 use Rattle.pm_table.specs.Destructs.{name_held}
@@ -40,9 +40,9 @@ lemma_nodes None = 0
 
 -- a hypothesis is taken, or lent
 abbrev pub head_run : Lemmas → (taken : Bool) → Head → List Place → Run
-head_run lemmas true (head.Hyp h) ps = act (take h) ps
-head_run lemmas false (head.Hyp h) ps = act (lend h) ps
-head_run lemmas taken (head.Lemma n) ps = act_with (lemma_nodes (lemma_named n lemmas.list)) (lemma lemmas n) ps
+head_run lemmas true (head.Hyp h) ps = act (at_rest (take h)) ps
+head_run lemmas false (head.Hyp h) ps = act (at_rest (lend h)) ps
+head_run lemmas taken (head.Lemma n) ps = act_with (lemma_nodes (lemma_named n lemmas.list)) (at_rest (lemma lemmas n)) ps
 
 -- the head, each term, each premise
 abbrev pub term_run : Lemmas → (taken : Bool) → ProofTerm → List Place → Run
@@ -92,7 +92,7 @@ run preds lemmas (d.Destruct t p) ps = after (term_run lemmas (is_bare t) t ps) 
 run preds lemmas (d.PoseProof t p) ps = after (term_run lemmas false t ps) (destruct_all p)
 run preds lemmas (d.Specialize t) ps = after (term_run lemmas true t ps) (act (name_held (head_name t.head)))
 run preds lemmas (d.Apply t) ps = after (term_run lemmas false t ps) (act apply)
-run preds lemmas (d.Assert f s p) ps = after (act_with (nodes_of f) (assert f s) ps) (destruct_all p)
+run preds lemmas (d.Assert f s p) ps = after (act_with (nodes_of f) (at_rest (assert f s)) ps) (destruct_all p)
 run preds lemmas d.Split ps = act (on_goal split) ps
 run preds lemmas (d.SplitL list) ps = act (on_goal (split_at true list)) ps
 run preds lemmas (d.SplitR list) ps = act (on_goal (split_at false list)) ps

@@ -9,8 +9,7 @@ use Rattle.pm_goal.specs.declared.work.Work.{Work}
 use Rattle.pm_goal.specs.declared.refusal.Row.TheVariants.{NameInUse, NoHypothesisToIntroduce, ImplicationOverSpatial, NoVariableToIntroduce}
 use Rattle.pm_classes.specs.Persistence.{is_persistent}
 use Rattle.pm_table.specs.Outcomes.{Outcome, require, require_plain, require_entry, one}
-use Rattle.pm_logic.specs.Substitution.{shift_of}
-use Rattle.pm_table.specs.Works.{Named, fits, fresh_name, with_var, with_concl, each_held, hold, work_of}
+use Rattle.pm_table.specs.Works.{Named, fits, fresh_name, with_var, with_concl, hold, work_of}
 
 abbrev pub is_empty : {A : Type 0} → List A → Bool
 is_empty [] = true
@@ -46,12 +45,12 @@ abbrev pub universal_of : Formula → Option Formula
 universal_of (All b) = Some b
 universal_of _ = None
 
--- the conclusion is `∀ B`: the goal gains the variable, and the conclusion becomes B; what is in hand stays there
+-- the conclusion is `∀ B`: the goal gains the variable, and the conclusion becomes B
 abbrev pub intro_all : Named → Work → Outcome
 intro_all x work =
     require_entry (universal_of work.goal.concl) NoVariableToIntroduce (λ b.
     require (fits work.goal x) NameInUse x
-    (one (work_of (with_var x b work.goal) (each_held shift_of work.held))))
+    (one (work_of (with_var x b work.goal) [])))
 
 abbrev pub intro_all_fresh : Work → Outcome
 intro_all_fresh work = intro_all (fresh_name work.goal) work

@@ -15,7 +15,7 @@ use Rattle.pm_classes.specs.Persistence.{is_persistent}
 use Rattle.pm_table.specs.Outcomes.{Outcome, refuse_plain, Action, gives, refused, one}
 use Rattle.pm_table.specs.declared.place.Place.{Place}
 use Rattle.pm_table.specs.declared.place.Place.TheVariants.{Current as current}
-use Rattle.pm_table.specs.Works.{Named}
+use Rattle.pm_table.specs.Works.{Named, at_rest}
 use Rattle.pm_table.specs.Running.{Run, after, stopped, stays, once, run_of, in_turn, on_all, turns_behind, with_turn, act, each_alone, for_each, in_order}
 use Rattle.pm_goal.specs.declared.refusal.Row.{Row}
 use Rattle.pm_table.specs.Introductions.{is_empty, intro_hyp, intro_all, intro_all_fresh, universal_of}
@@ -98,7 +98,7 @@ run_actions row (a ∷ as) work = for_each (λ x. x) (a ∷ as) work
 
 -- `*`: universals, while there are some
 abbrev pub universals : Formula → List Action
-universals (All b) = intro_all_fresh ∷ universals b
+universals (All b) = at_rest intro_all_fresh ∷ universals b
 universals _ = []
 
 abbrev pub intro_alls : Work → Run
@@ -106,12 +106,12 @@ intro_alls work = run_actions NoVariableToIntroduce (universals work.goal.concl)
 
 -- a left side, which is held and named
 abbrev pub left_side : List Action → List Action
-left_side follows = intro_hyp ∷ name_fresh ∷ follows
+left_side follows = at_rest intro_hyp ∷ name_fresh ∷ follows
 
 -- `**`: universals, wands and implications, one after another, as long as the next one can be introduced: a left side becomes a
 -- spatial hypothesis, over which only an implication of a persistent one can be
 abbrev pub premises : (no_spatial : Bool) → Formula → List Action
-premises none (All b) = intro_all_fresh ∷ premises none b
+premises none (All b) = at_rest intro_all_fresh ∷ premises none b
 premises none (Wand a b) = left_side (premises false b)
 premises none (Imp a b) = if none || is_persistent a then left_side (premises false b) else []
 premises none _ = []
@@ -130,7 +130,7 @@ abbrev pub intro_one : Pat → Action
 intro_one p work = intro_var_or_hyp (var_name work.goal p) (universal_of work.goal.concl) work
 
 abbrev pub intro_pattern : Pat → List Place → Run
-intro_pattern p ps = after (act (intro_one p) ps) (destruct p)
+intro_pattern p ps = after (act (at_rest (intro_one p)) ps) (destruct p)
 
 unfoldable pub intro : Pat → List Place → Run
 intro pat.ModIntro ps = act (on_goal head_intro) ps

@@ -16,7 +16,7 @@ use Rattle.pm_goal.specs.declared.work.Work.{Work}
 use Rattle.pm_goal.specs.Find.{find_of, first_of_two}
 use Rattle.pm_goal.specs.Fresh.{numbered}
 use Rattle.pm_tokens.specs.Characters.{is_digit}
-use Rattle.pm_table.specs.Outcomes.{Outcome, one}
+use Rattle.pm_table.specs.Outcomes.{Outcome, Action, one}
 use Rattle.pm_table.specs.Occurrences.{shifted_pure}
 
 abbrev pub Named : Type 0
@@ -186,3 +186,11 @@ acting_on work act (Some hand) = act hand
 -- the act on what is last in hand; where nothing is, nothing changes
 abbrev pub with_last : Work → (Hand → Outcome) → Outcome
 with_last work act = acting_on work act (hand_of work.held)
+
+-- an action for works with nothing in hand; where something is, nothing changes
+abbrev pub where_none : List Held → Outcome → Outcome → Outcome
+where_none [] acted stays = acted
+where_none (h ∷ hs) acted stays = stays
+
+abbrev pub at_rest : Action → Action
+at_rest action work = where_none work.held (action work) (one work)

@@ -1,0 +1,77 @@
+-- What is known of places and of a proof, and what a run of actions makes of them.
+use Rattle.std.specs.Prelude.{◌≡◌, ℕ, ◌+◌, List, [], ◌∷◌, map, None, Result, Ok, Err}
+use Rattle.pm_logic.specs.declared.formula.Preds.{Preds}
+use Rattle.pm_goal.specs.declared.goal.Goal.{Goal}
+use Rattle.pm_goal.specs.declared.work.Work.{Work}
+use Rattle.pm_goal.specs.declared.refusal.StepFault.{StepFault}
+use Rattle.pm_goal.specs.declared.refusal.StepFault.TheVariants as fault
+use Rattle.pm_proof.specs.Trees.{Tree, conclusion}
+use Rattle.pm_proof.specs.Known.{Proves, Every}
+use Rattle.pm_proof.specs.declared.proof.Parts.{Parts}
+use Rattle.pm_table.specs.declared.place.Place.{Place}
+use Rattle.pm_table.specs.Limits.{limit_row, work_at}
+use Rattle.pm_table.specs.Running.{Run, ran, stopped}
+use Rattle.pm_table.specs.Scopes.{IsWorkScoped}
+use Rattle.pm_table.specs.Stepping.{Each, NamesDiffer}
+use Rattle.pm_action.specs.Meanings.{meaning, meaning_at, meanings}
+
+-- within the limits, with names that differ
+pub record IsFit (w : Work) : Type 0 where
+  pub within : limit_row w ≡ None
+  pub apart : NamesDiffer w.goal
+
+abbrev pub AreFit : List Place → Type 0
+AreFit ps = Each (λ p. IsFit (work_at p)) ps
+
+abbrev pub AreScoped : Preds → List Place → Type 0
+AreScoped preds ps = Each (λ p. IsWorkScoped preds (work_at p)) ps
+
+-- how deep a formula of a step's proof may be, and how many variables an entailment of it may have
+abbrev pub DEEPEST : ℕ
+DEEPEST = 600
+
+abbrev pub WIDEST : ℕ
+WIDEST = 300
+
+-- places to which a work has led, each scoped wherever the work is, and a proof with at most so many rules of what the work means
+-- from what they mean
+pub record Stands (w : Work) (n : ℕ) (s : Parts Place) : Type 0 where
+  pub proves : Proves Every (meaning w) (meanings s.goals) n DEEPEST WIDEST s.proof
+  pub fit : AreFit s.goals
+  pub scoped : (preds : Preds) → IsWorkScoped preds w → AreScoped preds s.goals
+  pub over : Preds
+  pub based : IsWorkScoped over w
+
+-- some work has led there
+pub record IsStanding (s : Parts Place) : Type 0 where
+  pub work : Work
+  pub rules : ℕ
+  pub stands : Stands work rules s
+
+-- from where some places stand, so many rules further
+abbrev pub Leads : Parts Place → ℕ → Parts Place → Type 0
+Leads old n new = (w : Work) (m : ℕ) → Stands w m old → Stands w (m + n) new
+
+-- what code answers that runs actions from there
+abbrev pub Follows : Parts Place → Run → Result (Parts Place) StepFault → Type 0
+Follows old (ran n ps) (Ok new) = (new.goals ≡ ps) × Leads old n new
+Follows old (ran n ps) (Err (fault.Refused x)) = ⊥
+Follows old (ran n ps) (Err fault.Memory) = Unit {0}
+Follows old (stopped r) (Ok new) = ⊥
+Follows old (stopped r) (Err (fault.Refused x)) = x ≡ r
+Follows old (stopped r) (Err fault.Memory) = Unit {0}
+
+-- what it answers that runs them on one place
+abbrev pub Replaces : Place → Run → Result (Parts Place) StepFault → Type 0
+Replaces p (ran n ps) (Ok new) = (new.goals ≡ ps) × Stands (work_at p) n new
+Replaces p (ran n ps) (Err (fault.Refused x)) = ⊥
+Replaces p (ran n ps) (Err fault.Memory) = Unit {0}
+Replaces p (stopped r) (Ok new) = ⊥
+Replaces p (stopped r) (Err (fault.Refused x)) = x ≡ r
+Replaces p (stopped r) (Err fault.Memory) = Unit {0}
+
+-- a place on which actions run
+pub record IsSound (p : Place) : Type 0 where
+  pub fit : IsFit (work_at p)
+  pub over : Preds
+  pub scoped : IsWorkScoped over (work_at p)

@@ -1,0 +1,87 @@
+//! Lists of places.
+
+ghost use Rattle.std.specs.Prelude.{◌≡◌, ◌++◌, reverse, map, IfOk, OnOk};
+ghost use Rattle.pm_table.specs.Running.{turns_behind};
+
+use pm_logic::{List, Memory};
+use pm_table::Place;
+use std::alloc::Global;
+
+/// The places, the last one first.
+fn turned(alloc: Global, places: List<Place>) -> Result<List<Place>, Memory>
+    ensures { IfOk result (λ back. reverse back ≡ places) }
+{
+    let mut places = places;
+    let mut back = List::new(alloc);
+    while let Some(place) = places.pop() {
+        back.push(place)?;
+    }
+    Ok(back)
+}
+
+/// Adds places behind others, the last one first.
+fn pour(back: List<Place>, out: &mut List<Place>) -> Result<(), Memory>
+    ensures { OnOk result (out.new ≡ out.old ++ reverse back) }
+{
+    let mut back = back;
+    while let Some(place) = back.pop() {
+        out.push(place)?;
+    }
+    Ok(())
+}
+
+/// Adds places behind others.
+pub fn append(alloc: Global, more: List<Place>, out: &mut List<Place>) -> Result<(), Memory>
+    ensures { OnOk result (out.new ≡ out.old ++ more) }
+{
+    let back = turned(alloc, more)?;
+    pour(back, out)
+}
+
+/// Adds the turns that are still to come behind those of the list.
+fn push_turns(turns: &[bool], out: &mut List<bool>) -> Result<(), Memory>
+    ensures { OnOk result (out.new ≡ out.old ++ turns.now) }
+{
+    for turn in turns {
+        out.push(*turn)?;
+    }
+    Ok(())
+}
+
+/// The place with the turns that are still to come behind its own.
+fn place_with(place: Place, turns: &[bool]) -> Result<Place, Memory>
+    ensures { IfOk result (λ p. p ≡ turns_behind turns.now place) }
+{
+    match place {
+        Place::Finished(goal) => Ok(Place::Finished(goal)),
+        Place::Current(mut own, work) => {
+            push_turns(turns, &mut own)?;
+            Ok(Place::Current(own, work))
+        }
+    }
+}
+
+/// Adds places, the last one first, with the turns that are still to come behind their own.
+fn pour_with(back: List<Place>, turns: &[bool], out: &mut List<Place>) -> Result<(), Memory>
+    ensures { OnOk result (out.new ≡ out.old ++ map (turns_behind turns.now) (reverse back)) }
+{
+    let mut back = back;
+    while let Some(place) = back.pop() {
+        out.push(place_with(place, turns)?)?;
+    }
+    Ok(())
+}
+
+/// The places with the turns that are still to come behind their own.
+pub fn with_turns(
+    alloc: Global,
+    places: List<Place>,
+    turns: &[bool],
+) -> Result<List<Place>, Memory>
+    ensures { IfOk result (λ ps. ps ≡ map (turns_behind turns.now) places) }
+{
+    let back = turned(alloc, places)?;
+    let mut out = List::new(alloc);
+    pour_with(back, turns, &mut out)?;
+    Ok(out)
+}
