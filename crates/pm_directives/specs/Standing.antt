@@ -1,11 +1,10 @@
 -- What is known of places and of a proof, and what a run of actions makes of them.
-use Rattle.std.specs.Prelude.{◌≡◌, ℕ, ◌+◌, List, [], ◌∷◌, map, None, Result, Ok, Err}
+use Rattle.std.specs.Prelude.{◌≡◌, ℕ, ◌+◌, List, length, None, Result, Ok, Err}
 use Rattle.pm_logic.specs.declared.formula.Preds.{Preds}
 use Rattle.pm_goal.specs.declared.goal.Goal.{Goal}
 use Rattle.pm_goal.specs.declared.work.Work.{Work}
 use Rattle.pm_goal.specs.declared.refusal.StepFault.{StepFault}
 use Rattle.pm_goal.specs.declared.refusal.StepFault.TheVariants as fault
-use Rattle.pm_proof.specs.Trees.{Tree, conclusion}
 use Rattle.pm_proof.specs.Known.{Proves, Every}
 use Rattle.pm_proof.specs.declared.proof.Parts.{Parts}
 use Rattle.pm_table.specs.declared.place.Place.{Place}
@@ -13,7 +12,12 @@ use Rattle.pm_table.specs.Limits.{limit_row, work_at}
 use Rattle.pm_table.specs.Running.{Run, ran, stopped}
 use Rattle.pm_table.specs.Scopes.{IsWorkScoped}
 use Rattle.pm_table.specs.Stepping.{Each, NamesDiffer}
-use Rattle.pm_action.specs.Meanings.{meaning, meaning_at, meanings}
+use Rattle.pm_proof.specs.Valid.{TermFits}
+use Rattle.pm_directives.specs.declared.act.Changing.{Changing}
+use Rattle.pm_directives.specs.declared.act.Changing.TheVariants as change
+use Rattle.pm_directives.specs.declared.act.Act.{Act}
+use Rattle.pm_directives.specs.declared.act.Act.TheVariants as act
+use Rattle.pm_action.specs.Meanings.{meaning, meanings}
 
 -- within the limits, with names that differ
 pub record IsFit (w : Work) : Type 0 where
@@ -61,17 +65,37 @@ Follows old (stopped r) (Ok new) = ⊥
 Follows old (stopped r) (Err (fault.Refused x)) = x ≡ r
 Follows old (stopped r) (Err fault.Memory) = Unit {0}
 
--- what it answers that runs them on one place
-abbrev pub Replaces : Place → Run → Result (Parts Place) StepFault → Type 0
-Replaces p (ran n ps) (Ok new) = (new.goals ≡ ps) × Stands (work_at p) n new
-Replaces p (ran n ps) (Err (fault.Refused x)) = ⊥
-Replaces p (ran n ps) (Err fault.Memory) = Unit {0}
-Replaces p (stopped r) (Ok new) = ⊥
-Replaces p (stopped r) (Err (fault.Refused x)) = x ≡ r
-Replaces p (stopped r) (Err fault.Memory) = Unit {0}
+-- what it answers that runs them on one work
+abbrev pub ReplacesWork : Work → Run → Result (Parts Place) StepFault → Type 0
+ReplacesWork w (ran n ps) (Ok new) = (new.goals ≡ ps) × ((over : Preds) → IsWorkScoped over w → Stands w n new)
+ReplacesWork w (ran n ps) (Err (fault.Refused x)) = ⊥
+ReplacesWork w (ran n ps) (Err fault.Memory) = Unit {0}
+ReplacesWork w (stopped r) (Ok new) = ⊥
+ReplacesWork w (stopped r) (Err (fault.Refused x)) = x ≡ r
+ReplacesWork w (stopped r) (Err fault.Memory) = Unit {0}
 
--- a place on which actions run
-pub record IsSound (p : Place) : Type 0 where
-  pub fit : IsFit (work_at p)
+-- or on the work of a place
+abbrev pub Replaces : Place → Run → Result (Parts Place) StepFault → Type 0
+Replaces p r result = ReplacesWork (work_at p) r result
+
+-- a work on which actions run
+pub record IsSoundWork (w : Work) : Type 0 where
+  pub fit : IsFit w
   pub over : Preds
-  pub scoped : IsWorkScoped over (work_at p)
+  pub scoped : IsWorkScoped over w
+
+abbrev pub IsSound : Place → Type 0
+IsSound p = IsSoundWork (work_at p)
+
+-- what is handed to an action fits the work
+abbrev pub IsHandedToChange : Changing → Work → Type 0
+IsHandedToChange (change.Exists t) w = TermFits (length w.goal.vars) t.now
+IsHandedToChange _ w = Unit {0}
+
+abbrev pub IsHandedTo : Act → Work → Type 0
+IsHandedTo (act.Enter a) w = Unit {0}
+IsHandedTo (act.Handle a) w = Unit {0}
+IsHandedTo (act.Change a) w = IsHandedToChange a w
+
+abbrev pub IsHandedToAll : Act → List Place → Type 0
+IsHandedToAll a ps = Each (λ p. IsHandedTo a (work_at p)) ps

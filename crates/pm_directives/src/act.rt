@@ -3,31 +3,41 @@
 use pm_logic::{List, Name, Term};
 use pm_patterns::Pat;
 
-/// An action on one work, with what is handed to it. To add an action, add it here, in `perform`, and in specs/Acts.antt.
+/// An action that brings something into a goal, where nothing is in hand.
 #[derive(Clone, Copy)]
-pub enum Act<'a> {
+pub enum Entering<'a> {
     /// The introduction for a pattern: of a variable where it names one and the conclusion is a universal, else of a left
     /// side, which the pattern destructs.
-    IntroOne(&'a Pat),
-    IntroHyp,
-    IntroAllFresh,
-    NameHeld(&'a Name),
+    ForPattern(&'a Pat),
+    LeftSide,
+    FreshVariable,
+    Take(&'a Name),
+    Lend(&'a Name),
+}
+
+/// An action on what is last in hand.
+#[derive(Clone, Copy)]
+pub enum Handling<'a> {
+    Name(&'a Name),
     NameFresh,
-    DropHeld,
+    Drop,
     Pair(&'a Pat, &'a Pat),
     Either,
-    AbsurdHeld,
+    Absurd,
     ToPure(&'a Name),
     ToPureFresh,
     ToInt,
     ToSpat,
-    Take(&'a Name),
-    Lend(&'a Name),
+}
+
+/// An action on a goal, where nothing is in hand.
+#[derive(Clone, Copy)]
+pub enum Changing<'a> {
     Split,
     SplitLeft(Option<&'a List<Name>>),
     SplitRight(Option<&'a List<Name>>),
-    LeftSide,
-    RightSide,
+    Left,
+    Right,
     Exists(&'a Term),
     ExFalso,
     Exact(&'a Name),
@@ -38,6 +48,15 @@ pub enum Act<'a> {
     Rename(&'a Name, &'a Name),
     Revert(&'a Name),
     RevertVar(&'a Name),
+}
+
+/// An action on one work, with what is handed to it. To add an action, add it to its kind, to the function that performs that
+/// kind, and to specs/Acts.antt.
+#[derive(Clone, Copy)]
+pub enum Act<'a> {
+    Enter(Entering<'a>),
+    Handle(Handling<'a>),
+    Change(Changing<'a>),
 }
 
 /// Where an action acts.

@@ -1,14 +1,14 @@
 //! Lists of places.
 
 ghost use Rattle.std.specs.Prelude.{◌≡◌, ◌++◌, reverse, map, IfOk, OnOk};
-ghost use Rattle.pm_table.specs.Running.{turns_behind};
+ghost use Rattle.pm_table.specs.Running.{turns_behind, with_turn};
 
 use pm_logic::{List, Memory};
 use pm_table::Place;
 use std::alloc::Global;
 
 /// The places, the last one first.
-fn turned(alloc: Global, places: List<Place>) -> Result<List<Place>, Memory>
+pub fn turned(alloc: Global, places: List<Place>) -> Result<List<Place>, Memory>
     ensures { IfOk result (λ back. reverse back ≡ places) }
 {
     let mut places = places;
@@ -39,7 +39,7 @@ pub fn append(alloc: Global, more: List<Place>, out: &mut List<Place>) -> Result
 }
 
 /// Adds the turns that are still to come behind those of the list.
-fn push_turns(turns: &[bool], out: &mut List<bool>) -> Result<(), Memory>
+pub fn push_turns(turns: &[bool], out: &mut List<bool>) -> Result<(), Memory>
     ensures { OnOk result (out.new ≡ out.old ++ turns.now) }
 {
     for turn in turns {
@@ -83,5 +83,41 @@ pub fn with_turns(
     let back = turned(alloc, places)?;
     let mut out = List::new(alloc);
     pour_with(back, turns, &mut out)?;
+    Ok(out)
+}
+
+/// The place with a turn more, which is the next one.
+fn place_next(alloc: Global, place: Place) -> Result<Place, Memory>
+    ensures { IfOk result (λ p. p ≡ with_turn place) }
+{
+    match place {
+        Place::Finished(goal) => Ok(Place::Finished(goal)),
+        Place::Current(turns, work) => {
+            let mut own = List::new(alloc);
+            own.push(true)?;
+            push_turns(turns.as_slice(), &mut own)?;
+            Ok(Place::Current(own, work))
+        }
+    }
+}
+
+/// Adds places, the last one first, each with a turn more, which is the next one.
+fn pour_next(alloc: Global, back: List<Place>, out: &mut List<Place>) -> Result<(), Memory>
+    ensures { OnOk result (out.new ≡ out.old ++ map with_turn (reverse back)) }
+{
+    let mut back = back;
+    while let Some(place) = back.pop() {
+        out.push(place_next(alloc, place)?)?;
+    }
+    Ok(())
+}
+
+/// The places, each with a turn more, which is the next one.
+pub fn with_turn_each(alloc: Global, places: List<Place>) -> Result<List<Place>, Memory>
+    ensures { IfOk result (λ ps. ps ≡ map with_turn places) }
+{
+    let back = turned(alloc, places)?;
+    let mut out = List::new(alloc);
+    pour_next(alloc, back, &mut out)?;
     Ok(out)
 }

@@ -2,7 +2,7 @@
 
 ghost use Rattle.pm_table.specs.Running.{on_all};
 ghost use Rattle.pm_directives.specs.Acts.{at_place};
-ghost use Rattle.pm_directives.specs.Standing.{IsStanding, Follows};
+ghost use Rattle.pm_directives.specs.Standing.{IsStanding, IsHandedToAll, Follows};
 
 use crate::act::{Act, Turn};
 use crate::lists::append;
@@ -20,7 +20,8 @@ pub fn sweep(
     turn: Turn,
     act: Act,
 ) -> Result<Parts<Place>, StepFault>
-    requires { IsStanding standing }
+    requires standing { IsStanding standing }
+    requires handed { IsHandedToAll act standing.goals }
     ensures { Follows standing (on_all (at_place turn act.entry) standing.goals) result }
 {
     let Parts {

@@ -1,0 +1,5 @@
+pub mod Acts
+pub mod Standing
+pub mod Built
+pub mod Groups
+pub mod Steps
