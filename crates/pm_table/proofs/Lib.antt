@@ -9,3 +9,11 @@ pub mod Outcomes
 pub mod Counting
 pub mod Apart
 pub mod Deals
+pub mod Scopes
+pub mod Scoping
+pub mod ScopedHands
+pub mod ScopedGoals
+pub mod ScopedFrames
+pub mod ScopedTerms
+pub mod ScopedRules
+pub mod StaysScoped

@@ -16,6 +16,7 @@ pub mod Terms
 pub mod Linears
 pub mod Patterns
 pub mod Directives
+pub mod Scopes
 pub mod Stepping
 pub mod Dealing
 pub mod Examples

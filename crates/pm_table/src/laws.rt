@@ -1,7 +1,7 @@
 //! Laws of steps.
 
 ghost use Rattle.pm_table.specs.Dealing.{SplitsDeal, PremisesDeal};
-ghost use Rattle.pm_table.specs.Stepping.{StepsStayWithinLimits, StepsKeepNamesApart};
+ghost use Rattle.pm_table.specs.Stepping.{StepsStayWithinLimits, StepsKeepNamesApart, StepsStayScoped};
 
 /// A goal within the limits goes to goals within them, or the directive is refused.
 pub fn steps_stay_within_limits()
@@ -11,6 +11,12 @@ pub fn steps_stay_within_limits()
 /// The names of a new goal differ where those of the old one do.
 pub fn steps_keep_names_apart()
     ensures { StepsKeepNamesApart }
+{}
+
+/// A scoped goal goes to scoped goals, where the predicates' bodies and the lemmas are scoped, and what the directive gives is
+/// scoped in the goal's variables.
+pub fn steps_stay_scoped()
+    ensures { StepsStayScoped }
 {}
 
 /// `iSplitL` and `iSplitR` give each spatial hypothesis to exactly one goal.
