@@ -134,7 +134,7 @@ module _ (preds : Preds) (n : ℕ) where
 
   -- ---- splitting and choosing
 
-  pub split_in : (w : Work) → In w → InOutcome In (on_goal split w)
+  pub split_in : (w : Work) → In w → InOutcome In (split w.goal)
   split_in w h = parts_in preds n (length w.goal.vars) (split_parts w.goal.concl) _ _ (split_parts_in preds (length w.goal.vars) w.goal.concl h.scoped.goal.concl) (λ p s t. (concluded p.first w h s, (concluded p.second w h t, tt)))
 
   sides_in : (left : Bool) (p : Parts) (list : Option (List Named)) (w : Work) → In w → Scoped preds (length w.goal.vars) p.first → Scoped preds (length w.goal.vars) p.second → InOutcome In (sides left p list w.goal)
@@ -143,37 +143,37 @@ module _ (preds : Preds) (n : ℕ) where
   sides_in false p list w h s t = let k : ℕ = length w.goal.vars in
       (with_spats_in (unchosen list w.goal.spats) p.first w h (unchosen_hyps_in preds k list w.goal.spats h.scoped.goal.spats) s, (with_spats_in (chosen list w.goal.spats) p.second w h (chosen_hyps_in preds k list w.goal.spats h.scoped.goal.spats) t, tt))
 
-  pub split_at_in : (left : Bool) (list : Option (List Named)) (w : Work) → In w → InOutcome In (on_goal (split_at left list) w)
+  pub split_at_in : (left : Bool) (list : Option (List Named)) (w : Work) → In w → InOutcome In (split_at left list w.goal)
   split_at_in left list w h = parts_in preds n (length w.goal.vars) (star_parts w.goal.concl) _ _ (star_parts_in preds (length w.goal.vars) w.goal.concl h.scoped.goal.concl) (λ p s t. all_spatial_in In w.goal (list_given list) _ (sides_in left p list w h s t))
 
-  pub side_in : (left : Bool) (w : Work) → In w → InOutcome In (on_goal (side left) w)
+  pub side_in : (left : Bool) (w : Work) → In w → InOutcome In (side left w.goal)
   side_in left w h = let k : ℕ = length w.goal.vars in
       parts_in preds n k (or_parts w.goal.concl) _ _ (or_parts_in preds k w.goal.concl h.scoped.goal.concl) (λ p s t. (concluded (cond left p.first p.second) w h (either_formula preds k left p.first p.second s t), tt))
 
-  pub exists_in : (t : Term) (w : Work) → TermScoped n t → In w → InOutcome In (on_goal (exists t) w)
+  pub exists_in : (t : Term) (w : Work) → TermScoped n t → In w → InOutcome In (exists t w.goal)
   exists_in t w given h = let k : ℕ = length w.goal.vars in
       entry_in preds n (suc k) (body_of_ex w.goal.concl) _ _ (body_in preds k w.goal.concl h.scoped.goal.concl) (λ b s. (concluded (opened_of b t) w h (opened preds k b t s (term_grows n k t h.least given)), tt))
 
-  pub exfalso_in : (w : Work) → In w → InOutcome In (on_goal exfalso w)
+  pub exfalso_in : (w : Work) → In w → InOutcome In (exfalso w.goal)
   exfalso_in w h = (concluded (Assert False) w h (falsehood preds (length w.goal.vars)), tt)
 
   -- ---- closing
 
-  pub exact_in : (x : Named) (w : Work) → In w → InOutcome In (on_goal (exact x) w)
+  pub exact_in : (x : Named) (w : Work) → In w → InOutcome In (exact x w.goal)
   exact_in x w h = require_in In (has_hyp_or_fact w.goal x) _ _ _ (λ e. require_plain_in In (is_exact x w.goal) _ _ (λ f. tt))
 
-  pub assumption_in : (w : Work) → In w → InOutcome In (on_goal assumption w)
+  pub assumption_in : (w : Work) → In w → InOutcome In (assumption w.goal)
   assumption_in w h = require_plain_in In (is_hypothesis w.goal || is_fact w.goal) _ _ (λ e. tt)
 
-  pub done_in : (w : Work) → In w → InOutcome In (on_goal done w)
+  pub done_in : (w : Work) → In w → InOutcome In (done w.goal)
   done_in w h = require_plain_in In (is_done w.goal) _ _ (λ e. tt)
 
-  pub try_done_in : (w : Work) → In w → InOutcome In (on_goal try_done w)
+  pub try_done_in : (w : Work) → In w → InOutcome In (try_done w.goal)
   try_done_in w h = chosen_in In (is_done w.goal) _ _ (λ e. tt) (λ e. (rest_in w.goal h.least h.scoped.goal, tt))
 
   -- ---- names
 
-  pub clear_in : (x : Named) (w : Work) → In w → InOutcome In (on_goal (clear x) w)
+  pub clear_in : (x : Named) (w : Work) → In w → InOutcome In (clear x w.goal)
   clear_in x w h = require_in In (has_hyp_or_fact w.goal x) _ _ _ (λ e. (rest_in (without_named x w.goal) h.least (without_named_in preds (length w.goal.vars) x w.goal h.scoped.goal), tt))
 
   renamed_in : (k : ℕ) (x y : Named) (g : Goal) → GoalScopedIn preds k g → GoalScopedIn preds k (with_renamed x y g)
@@ -184,16 +184,16 @@ module _ (preds : Preds) (n : ℕ) where
     concl = h.concl;
   }
 
-  pub rename_in : (x y : Named) (w : Work) → In w → InOutcome In (on_goal (rename x y) w)
+  pub rename_in : (x y : Named) (w : Work) → In w → InOutcome In (rename x y w.goal)
   rename_in x y w h = require_in In (has_hyp_or_fact w.goal x) _ _ _ (λ e. require_in In (fits w.goal y) _ _ _ (λ free. (rest_in (with_renamed x y w.goal) h.least (renamed_in (length w.goal.vars) x y w.goal h.scoped.goal), tt)))
 
-  pub revert_in : (x : Named) (w : Work) → In w → InOutcome In (on_goal (revert x) w)
+  pub revert_in : (x : Named) (w : Work) → In w → InOutcome In (revert x w.goal)
   revert_in x w h = let k : ℕ = length w.goal.vars in
       named_in preds n k (reverted x w.goal) _ _ _ (reverted_in preds k x w.goal h.scoped.goal) (λ a s.
       (rest_in (for (Wand a w.goal.concl) (without_named x w.goal)) h.least (concl_in preds k (Wand a w.goal.concl) (without_named x w.goal) (without_named_in preds k x w.goal h.scoped.goal) (wand preds k a w.goal.concl s h.scoped.goal.concl)), tt))
 
 -- the goal has a variable less
-pub revert_var_in : (preds : Preds) (x : Named) (w : Work) → Inside preds 0 w → InOutcome (Inside preds 0) (on_goal (revert_var x) w)
+pub revert_var_in : (preds : Preds) (x : Named) (w : Work) → Inside preds 0 w → InOutcome (Inside preds 0) (revert_var x w.goal)
 revert_var_in preds x w h = require_some_in (Inside preds 0) (index_named x w.goal.vars) _ _ _ (λ i e. require_plain_in (Inside preds 0) (not (mentions i w.goal)) _ _ (λ f.
     let m : ℕ = length (names_but x w.goal.vars) in
     let is : IsVar i w.goal.vars (names_but x w.goal.vars) = subst (IsVarOf w.goal.vars (names_but x w.goal.vars)) e (var_in x w.goal.vars) in

@@ -260,10 +260,10 @@ module _ (preds : Preds) (n : ℕ) where
       let j : HypsIn preds k spats = subst (ContextIn preds k) f (passed_in preds k m m.spatial w.goal.spats is h.scoped.goal.spats) in
       (rest_in preds n (acted w.goal ints spats c) h.least (record { pures = h.scoped.goal.pures; ints = i; spats = j; concl = s }), tt))))
 
-  pub head_intro_in : (w : Work) → In w → InOutcome In (on_goal head_intro w)
+  pub head_intro_in : (w : Work) → In w → InOutcome In (head_intro w.goal)
   head_intro_in w h = require_entry_in In (modality_of w.goal.concl) _ _ (λ m e. mod_intro_in m w (subst (KindIn preds (length w.goal.vars)) e (modality_in preds (length w.goal.vars) w.goal.concl)) h)
 
-  pub next_in : (w : Work) → In w → InOutcome In (on_goal next w)
+  pub next_in : (w : Work) → In w → InOutcome In (next w.goal)
   next_in w h = mod_intro_in later w (later_kind preds (length w.goal.vars)) h
 
   pub elim_update_in : (w : Work) → In w → InOutcome In (elim_update w)
@@ -273,7 +273,7 @@ module _ (preds : Preds) (n : ℕ) where
 
   -- ---- points-to
 
-  pub combine_held_in : (x y : Named) (w : Work) → In w → InOutcome In (on_goal (combine_held x y) w)
+  pub combine_held_in : (x y : Named) (w : Work) → In w → InOutcome In (combine_held x y w.goal)
   combine_held_in x y w h = let k : ℕ = length w.goal.vars in
       let list : List Named = x ∷ y ∷ [] in
       let g : Goal = with_spats (hyps_out list w.goal.spats) w.goal in
@@ -281,13 +281,13 @@ module _ (preds : Preds) (n : ℕ) where
       all_spatial_in In w.goal list _ (named_in preds n k (hyp_named x w.goal.spats) _ _ _ (hyp_named_in preds k x w.goal.spats h.scoped.goal.spats) (λ a t. named_in preds n k (hyp_named y w.goal.spats) _ _ _ (hyp_named_in preds k y w.goal.spats h.scoped.goal.spats) (λ b u.
       chosen_in In (is_falsehood (combine a b)) _ _ (λ e. tt) (λ e. (held_then preds n Spat (combine a b) (resting g) (rest_in preds n g h.least s) (combine_in preds k a b t u), tt)))))
 
-  pub write_in : (x : Named) (t : Term) (w : Work) → TermScoped n t → In w → InOutcome In (on_goal (write x t) w)
+  pub write_in : (x : Named) (t : Term) (w : Work) → TermScoped n t → In w → InOutcome In (write x t w.goal)
   write_in x t w given h = let k : ℕ = length w.goal.vars in
       require_in In (has_hyp w.goal x) _ _ _ (λ e. named_in preds n k (hyp_named x w.goal.spats) _ _ _ (hyp_named_in preds k x w.goal.spats h.scoped.goal.spats) (λ f s. require_entry_in In (full_location f) _ _ (λ l i. require_plain_in In (is_some (under_update w.goal.concl)) _ _ (λ j.
       let there : TermScoped k l = subst (TermIn k) i (location_in preds k f s) in
       (rest_in preds n (put x (Pts l UNIT t) w.goal) h.least (put_goal_in preds k x (Pts l UNIT t) w.goal h.scoped.goal (full preds k l t there (term_grows n k t h.least given))), tt)))))
 
-  pub allocate_in : (t : Term) (l : Named) (w : Work) → TermScoped n t → In w → InOutcome In (on_goal (allocate t l) w)
+  pub allocate_in : (t : Term) (l : Named) (w : Work) → TermScoped n t → In w → InOutcome In (allocate t l w.goal)
   allocate_in t l w given h = let k : ℕ = length w.goal.vars in
       require_plain_in In (is_some (under_update w.goal.concl)) _ _ (λ e. require_in In (fits w.goal l) _ _ _ (λ free.
       (wider preds n l (shift_of w.goal.concl) (holding Spat (Pts (Var 0) UNIT (raised t)) ∷ []) w.goal h.least h.scoped.goal (shifted preds k w.goal.concl h.scoped.goal.concl)
@@ -295,20 +295,20 @@ module _ (preds : Preds) (n : ℕ) where
 
   -- ---- induction and predicates' bodies
 
-  pub loeb_in : (x : Named) (w : Work) → In w → InOutcome In (on_goal (loeb x) w)
+  pub loeb_in : (x : Named) (w : Work) → In w → InOutcome In (loeb x w.goal)
   loeb_in x w h = let k : ℕ = length w.goal.vars in
       let all : Formula = Later (wands w.goal.spats w.goal.concl) in
       require_in In (fits w.goal x) _ _ _ (λ free.
       (rest_in preds n (with_int x all w.goal) h.least (with_int_in preds k x all w.goal h.scoped.goal (scope.later preds k (wands w.goal.spats w.goal.concl) (wands_in preds k w.goal.spats w.goal.concl h.scoped.goal.spats h.scoped.goal.concl))), tt))
 
-  pub unfold_call_in : (x : Option Named) (w : Work) → AreBodiesScoped preds → In w → InOutcome In (on_goal (unfold_call preds x) w)
+  pub unfold_call_in : (x : Option Named) (w : Work) → AreBodiesScoped preds → In w → InOutcome In (unfold_call preds x w.goal)
   unfold_call_in None w bodies h = let k : ℕ = length w.goal.vars in
       entry_in preds n k (body_of_call preds w.goal.concl) _ _ (called_in preds k w.goal.concl bodies h.scoped.goal.concl) (λ b s. (concluded preds n b w h s, tt))
   unfold_call_in (Some x) w bodies h = let k : ℕ = length w.goal.vars in
       named_in preds n k (formula_named x w.goal) _ _ _ (formula_named_in preds k x w.goal h.scoped.goal) (λ f s. entry_in preds n k (body_of_call preds f) _ _ (called_in preds k f bodies s) (λ b t.
       (rest_in preds n (put x b w.goal) h.least (put_goal_in preds k x b w.goal h.scoped.goal t), tt)))
 
-  pub fold_call_in : (f : Formula) (x : Named) (w : Work) → Scoped preds n f → In w → InOutcome In (on_goal (fold_call preds f x) w)
+  pub fold_call_in : (f : Formula) (x : Named) (w : Work) → Scoped preds n f → In w → InOutcome In (fold_call preds f x w.goal)
   fold_call_in f x w given h = let k : ℕ = length w.goal.vars in
       require_entry_in In (body_of_call preds f) _ _ (λ b e. require_some_in In (formula_named x w.goal) _ _ _ (λ g i. require_plain_in In (formula_eq g b) _ _ (λ j.
       (rest_in preds n (put x f w.goal) h.least (put_goal_in preds k x f w.goal h.scoped.goal (grown preds n k f h.least given)), tt))))
@@ -330,17 +330,17 @@ module _ (preds : Preds) (n : ℕ) where
       (λ i. named_in preds n k (formula_named x w.goal) _ _ _ (formula_named_in preds k x w.goal h.scoped.goal) (λ f s. require_plain_in In (occurs e f) _ _ (λ m.
       (rest_in preds n (put x (rewritten e f) w.goal) h.least (put_goal_in preds k x (rewritten e f) w.goal h.scoped.goal (rewritten_in preds k e new f s)), tt))))
 
-  pub rewrite_in : (back : Bool) (x : Named) (target : Option Named) (w : Work) → In w → InOutcome In (on_goal (rewrite back x target) w)
+  pub rewrite_in : (back : Bool) (x : Named) (target : Option Named) (w : Work) → In w → InOutcome In (rewrite back x target w.goal)
   rewrite_in back x target w h = require_some_in In (fact_named x w.goal.pures) _ _ _ (λ p e. require_entry_in In (equation_of back p) _ _ (λ q i.
       let k : ℕ = length w.goal.vars in
       let s : PureScoped k p = subst (PureIn preds k) e (fact_named_in preds k x w.goal.pures h.scoped.goal.pures) in
       rewrite_at_in q target w (subst (EquationIn k) i (equation_in preds k back p s)) h))
 
-  pub pure_intro_in : (w : Work) → In w → InOutcome In (on_goal pure_intro w)
+  pub pure_intro_in : (w : Work) → In w → InOutcome In (pure_intro w.goal)
   pure_intro_in w h = require_entry_in In (from_pure w.goal.concl) _ _ (λ p e.
       (rest_in preds n (record w.goal { ints = []; spats = []; concl = Assert p }) h.least (record { pures = h.scoped.goal.pures; ints = tt; spats = tt; concl = class.scoped.of_pure preds (length w.goal.vars) w.goal.concl p e h.scoped.goal.concl }), tt))
 
-  pub cases_in : (p : P.Pure) (x : Named) (w : Work) → PureScoped n p → In w → InOutcome In (on_goal (cases p x) w)
+  pub cases_in : (p : P.Pure) (x : Named) (w : Work) → PureScoped n p → In w → InOutcome In (cases p x w.goal)
   cases_in p x w given h = let k : ℕ = length w.goal.vars in
       let s : PureScoped k p = pure_grows n k p h.least given in
       require_in In (fits w.goal x) _ _ _ (λ free.
@@ -349,8 +349,8 @@ module _ (preds : Preds) (n : ℕ) where
 
   -- ---- linear arithmetic, which closes the goal
 
-  pub linear_in : (w : Work) → In w → InOutcome In (on_goal linear w)
+  pub linear_in : (w : Work) → In w → InOutcome In (linear w.goal)
   linear_in w h = require_entry_in In (linear_conclusion w.goal.concl) _ _ (λ g e. require_plain_in In (are_small g) _ _ (λ i. require_plain_in In (in_box (atoms w.goal.pures) g) _ _ (λ j. tt)))
 
-  pub linear_with_in : (certs : List Cert) (w : Work) → In w → InOutcome In (on_goal (linear_with certs) w)
+  pub linear_with_in : (certs : List Cert) (w : Work) → In w → InOutcome In (linear_with certs w.goal)
   linear_with_in certs w h = require_entry_in In (linear_conclusion w.goal.concl) _ _ (λ g e. require_plain_in In (are_small g) _ _ (λ i. require_plain_in In (length certs == length (readings g)) _ _ (λ j. refuse_where_in In (find (λ n. not (has_fact w.goal n)) (flat_map names_of_cert certs)) _ _ (refuse_where_in In (given_twice certs) _ _ (refuse_where_in In (find (λ n. not (fact_passes is_atom w.goal n)) (flat_map names_of_cert certs)) _ _ (require_plain_in In (list_all (fact_passes are_small w.goal) (flat_map names_of_cert certs)) _ _ (λ k. require_plain_in In (certify w.goal certs (readings g)) _ _ (λ l. tt))))))))

@@ -8,7 +8,7 @@ use Rattle.pm_goal.specs.declared.work.Work.{Work}
 use Rattle.pm_goal.specs.declared.work.Lemmas.{Lemmas}
 use Rattle.pm_script.specs.declared.directive.Directive.{Directive}
 use Rattle.pm_script.specs.declared.directive.Directive.TheVariants as d
-use Rattle.pm_table.specs.Outcomes.{Action, one}
+use Rattle.pm_table.specs.Outcomes.{Outcome, Action, one}
 use Rattle.pm_table.specs.declared.place.Place.TheVariants.{Current as current}
 use Rattle.pm_table.specs.Limits.{resting}
 use Rattle.pm_table.specs.Introductions.{intro_hyp, intro_all_fresh}
@@ -25,7 +25,7 @@ use Rattle.pm_table.specs.Patterns.{opening, intro_one}
 use Rattle.pm_table.specs.Directives.{run_on, step}
 use Rattle.pm_table.specs.Scopes.{IsGoalScoped, AreBodiesScoped, AreLemmasScoped, IsDirectiveScoped}
 use Rattle.pm_table.specs.Stepping.{Each, EachGoal, StepsStayScoped}
-use Rattle.pm_table.proofs.Keeping.{InOutcome, Good}
+use Rattle.pm_table.proofs.Keeping.{InOutcome, Good, rest_good}
 use Rattle.pm_table.proofs.Outcomes.{good, opening_in}
 use Rattle.pm_table.proofs.Acting.{Kept, ActionsKeep, Handed, run_in}
 use Rattle.pm_table.proofs.Within.{stepped_in}
@@ -43,6 +43,9 @@ scope preds n = record { holds = Inside preds n; term = TermScoped n; pure = Pur
 module _ (preds : Preds) (lemmas : Lemmas) (n : ℕ) (bodies : AreBodiesScoped preds) (given : AreLemmasScoped preds lemmas) where
   fine : (action : Action) → ((w : Work) → Inside preds n w → InOutcome (Inside preds n) (action w)) → Good (Inside preds n) action
   fine action keeps w h = good (Inside preds n) action keeps w h
+
+  goal_fine : (action : Goal → Outcome) → ((w : Work) → Inside preds n w → InOutcome (Inside preds n) (action w.goal)) → Good (Inside preds n) (on_goal action)
+  goal_fine action keeps w h = rest_good (Inside preds n) (λ v. action v.goal) (fine (λ v. action v.goal) keeps) (fine one (hands.stay_in preds n)) w h
 
   opening_fine : (action : Action) → ((w : Work) → Inside preds n w → InOutcome (Inside preds n) (action w)) → Good (Inside preds n) (opening (true ∷ []) action)
   opening_fine action keeps w h = good (Inside preds n) (opening (true ∷ []) action) (λ v i. opening_in (Inside preds n) (true ∷ []) (action v) (keeps v i)) w h
@@ -75,31 +78,31 @@ module _ (preds : Preds) (lemmas : Lemmas) (n : ℕ) (bodies : AreBodiesScoped p
     apply = fine apply (terms.apply_in preds n);
     frame_named = λ x. fine (frame_named x) (terms.frame_named_in preds n x);
     frame_member = λ x. fine (frame_member x) (terms.frame_member_in preds n x);
-    split = fine (on_goal split) (goals.split_in preds n);
-    split_at = λ left list. fine (on_goal (split_at left list)) (goals.split_at_in preds n left list);
-    side = λ left. fine (on_goal (side left)) (goals.side_in preds n left);
-    exists = λ t i. fine (on_goal (exists t)) (λ w h. goals.exists_in preds n t w i h);
-    exfalso = fine (on_goal exfalso) (goals.exfalso_in preds n);
-    exact = λ x. fine (on_goal (exact x)) (goals.exact_in preds n x);
-    assumption = fine (on_goal assumption) (goals.assumption_in preds n);
-    done = fine (on_goal done) (goals.done_in preds n);
-    try_done = fine (on_goal try_done) (goals.try_done_in preds n);
-    clear = λ x. fine (on_goal (clear x)) (goals.clear_in preds n x);
-    rename = λ x y. fine (on_goal (rename x y)) (goals.rename_in preds n x y);
-    revert = λ x. fine (on_goal (revert x)) (goals.revert_in preds n x);
-    head_intro = fine (on_goal head_intro) (rules.head_intro_in preds n);
-    next = fine (on_goal next) (rules.next_in preds n);
-    combine_held = λ x y. fine (on_goal (combine_held x y)) (rules.combine_held_in preds n x y);
-    write = λ x t i. fine (on_goal (write x t)) (λ w h. rules.write_in preds n x t w i h);
-    allocate = λ t l i. fine (on_goal (allocate t l)) (λ w h. rules.allocate_in preds n t l w i h);
-    loeb = λ x. fine (on_goal (loeb x)) (rules.loeb_in preds n x);
-    unfold_call = λ x. fine (on_goal (unfold_call preds x)) (λ w h. rules.unfold_call_in preds n x w bodies h);
-    fold_call = λ f x i. fine (on_goal (fold_call preds f x)) (λ w h. rules.fold_call_in preds n f x w i h);
-    pure_intro = fine (on_goal pure_intro) (rules.pure_intro_in preds n);
-    rewrite = λ back x target. fine (on_goal (rewrite back x target)) (rules.rewrite_in preds n back x target);
-    cases = λ p x i. fine (on_goal (cases p x)) (λ w h. rules.cases_in preds n p x w i h);
-    linear = fine (on_goal linear) (rules.linear_in preds n);
-    linear_with = λ certs. fine (on_goal (linear_with certs)) (rules.linear_with_in preds n certs);
+    split = goal_fine split (goals.split_in preds n);
+    split_at = λ left list. goal_fine (split_at left list) (goals.split_at_in preds n left list);
+    side = λ left. goal_fine (side left) (goals.side_in preds n left);
+    exists = λ t i. goal_fine (exists t) (λ w h. goals.exists_in preds n t w i h);
+    exfalso = goal_fine exfalso (goals.exfalso_in preds n);
+    exact = λ x. goal_fine (exact x) (goals.exact_in preds n x);
+    assumption = goal_fine assumption (goals.assumption_in preds n);
+    done = goal_fine done (goals.done_in preds n);
+    try_done = goal_fine try_done (goals.try_done_in preds n);
+    clear = λ x. goal_fine (clear x) (goals.clear_in preds n x);
+    rename = λ x y. goal_fine (rename x y) (goals.rename_in preds n x y);
+    revert = λ x. goal_fine (revert x) (goals.revert_in preds n x);
+    head_intro = goal_fine head_intro (rules.head_intro_in preds n);
+    next = goal_fine next (rules.next_in preds n);
+    combine_held = λ x y. goal_fine (combine_held x y) (rules.combine_held_in preds n x y);
+    write = λ x t i. goal_fine (write x t) (λ w h. rules.write_in preds n x t w i h);
+    allocate = λ t l i. goal_fine (allocate t l) (λ w h. rules.allocate_in preds n t l w i h);
+    loeb = λ x. goal_fine (loeb x) (rules.loeb_in preds n x);
+    unfold_call = λ x. goal_fine (unfold_call preds x) (λ w h. rules.unfold_call_in preds n x w bodies h);
+    fold_call = λ f x i. goal_fine (fold_call preds f x) (λ w h. rules.fold_call_in preds n f x w i h);
+    pure_intro = goal_fine pure_intro (rules.pure_intro_in preds n);
+    rewrite = λ back x target. goal_fine (rewrite back x target) (rules.rewrite_in preds n back x target);
+    cases = λ p x i. goal_fine (cases p x) (λ w h. rules.cases_in preds n p x w i h);
+    linear = goal_fine linear (rules.linear_in preds n);
+    linear_with = λ certs. goal_fine (linear_with certs) (rules.linear_with_in preds n certs);
   }
 
 each_term : (k : ℕ) (ts : List Term) → TermsScoped k ts → Each (TermScoped k) ts
@@ -108,7 +111,7 @@ each_term k [] h = tt
 each_term k (t ∷ ts) h = (h.0, each_term k ts h.1)
 
 revert_var_fine : (preds : Preds) (x : List ℕ) → Good (Inside preds 0) (on_goal (revert_var x))
-revert_var_fine preds x w h = good (Inside preds 0) (on_goal (revert_var x)) (goals.revert_var_in preds x) w h
+revert_var_fine preds x w h = rest_good (Inside preds 0) (λ v. revert_var x v.goal) (λ v i. good (Inside preds 0) (λ u. revert_var x u.goal) (goals.revert_var_in preds x) v i) (λ v i. good (Inside preds 0) one (hands.stay_in preds 0) v i) w h
 
 -- how many variables what the directive hands to its actions is scoped in: none, where variables are reverted
 abbrev handed_in : Directive → ℕ → ℕ
