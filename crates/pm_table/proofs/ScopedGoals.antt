@@ -108,12 +108,12 @@ without_var_in preds x i m g low e h =
     let pures : Bool = list_any (λ (f : Fact). in_a_pure i f.pure) g.pures in
     let ints : Bool = list_any (λ (h : Hyp). in_a_formula i h.formula) g.ints in
     let spats : Bool = list_any (λ (h : Hyp). in_a_formula i h.formula) g.spats in
-    let first = neither pures (ints || spats) e in
-    let second = neither ints spats first.1 in
+    let first = neither (pures || ints) spats e in
+    let second = neither pures ints first.0 in
     record {
-      pures = facts_without i m g.pures low first.0 h.pures;
-      ints = hyps_without preds i m g.ints low second.0 h.ints;
-      spats = hyps_without preds i m g.spats low second.1 h.spats;
+      pures = facts_without i m g.pures low second.0 h.pures;
+      ints = hyps_without preds i m g.ints low second.1 h.ints;
+      spats = hyps_without preds i m g.spats low first.1 h.spats;
       concl = all preds m (in_formula (to_front i) g.concl) (to_front_scoped preds i m g.concl low h.concl);
     }
 

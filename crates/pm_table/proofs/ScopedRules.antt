@@ -49,7 +49,7 @@ use Rattle.pm_table.specs.Linears.{names_of as names_of_cert}
 use Rattle.pm_table.specs.Scopes.{GoalScopedIn, IsGoalScoped, IsWorkScoped, AreBodiesScoped}
 use Rattle.pm_table.proofs.Keeping.{InOutcome}
 use Rattle.pm_table.proofs.Outcomes.{chosen_in, require_in, require_plain_in, require_some_in, require_entry_in, all_spatial_in, refuse_where_in}
-use Rattle.pm_table.proofs.Scopes.{newest, raised_scoped, of_sep, of_and, of_or, of_later, of_pers, of_upd, of_fact, of_location, of_units, of_equation, sep, wand, and_, or_, pers, fact, falsehood, equation, points_to, not_pure, moved, pure_moved, shifted, opened, grown}
+use Rattle.pm_table.proofs.Scopes.{newest, raised_scoped, of_sep, of_and, of_or, of_later, of_pers, of_upd, of_fact, of_location, of_units, of_equation, sep, wand, and_, or_, pers, fact, falsehood, points_to, not_pure, moved, pure_moved, shifted, opened, grown}
 use Rattle.pm_table.proofs.Scopes as scope
 use Rattle.pm_table.proofs.Scoping.{HypsIn, FactsIn, OneIn, PureIn, Inside, all_filter, one_of_two, either_formula, hyp_named_in, fact_named_in, concl_in, with_fact_in, with_int_in, hyps_changed, facts_changed, held_changed, wider, held_then, with_hand_in, entry_in, named_in}
 use Rattle.pm_table.proofs.ScopedFrames.{some_if, under_later_in}
