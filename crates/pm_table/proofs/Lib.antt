@@ -19,3 +19,4 @@ pub mod ScopedRules
 pub mod StaysScoped
 pub mod PartsOfClasses
 pub mod PartsGiven
+pub mod ScopedActions
