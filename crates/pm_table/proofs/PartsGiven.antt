@@ -1,5 +1,5 @@
 -- What moving, naming, dropping, choosing and taking apart give are parts of what was there.
-use Rattle.std.proofs.Common.{◌≡◌, Bool, true, false, cond, not, ◌||◌, List, [], ◌∷◌, ◌++◌, map, refl, subst, inl, inr, ◌⊎◌, Option, Some, None, option_map, bytes_eq, is_some}
+use Rattle.std.proofs.Common.{◌≡◌, Bool, true, false, cond, not, ◌||◌, List, [], ◌∷◌, ◌++◌, map, subst, inl, inr, Option, Some, None, option_map, bytes_eq, is_some}
 use Rattle.std.specs.List.{AllByRecursion}
 use Rattle.pm_logic.specs.declared.formula.Pure as P
 use Rattle.pm_logic.specs.declared.formula.Formula.{Formula}
@@ -16,9 +16,9 @@ use Rattle.pm_goal.specs.declared.work.Work.{Work}
 use Rattle.pm_goal.specs.Find.{first_of_two}
 use Rattle.pm_goal.specs.Left.{facts, hyps}
 use Rattle.pm_patterns.specs.declared.pattern.Pat.{Pat}
-use Rattle.pm_classes.specs.Classes.{Parts, parts, into_sep, into_and, into_or, into_exist, into_persistent}
+use Rattle.pm_classes.specs.Classes.{Parts, parts, into_or, into_exist}
 use Rattle.pm_classes.specs.Persistence.{is_persistent}
-use Rattle.pm_table.specs.Outcomes.{Outcome, gives, refused, Action, one}
+use Rattle.pm_table.specs.Outcomes.{Outcome, gives, refused, Action}
 use Rattle.pm_table.specs.declared.place.Place.{Place}
 use Rattle.pm_table.specs.Limits.{work_formulas, work_at, resting}
 use Rattle.pm_table.specs.Occurrences.{shifted_pure}

@@ -1,6 +1,6 @@
 -- Each entry of a class is a part of its formula.
-use Rattle.std.proofs.Common.{◌≡◌, ℕ, ◌%◌, ◌==◌, ◌||◌, cond, Bool, true, false, Option, None, Some, option_map, refl, subst}
-use Rattle.pm_logic.specs.declared.formula.Formula.{Formula, the_lemmas}
+use Rattle.std.proofs.Common.{◌%◌, ◌==◌, ◌||◌, cond, Bool, true, false, Option, None, Some, option_map}
+use Rattle.pm_logic.specs.declared.formula.Formula.{Formula}
 use Rattle.pm_logic.specs.declared.formula.Formula.TheVariants.{Pure as Assert, Pts}
 use Rattle.pm_logic.specs.declared.formula.Formula.TheViews as view
 use Rattle.pm_logic.specs.declared.formula.Formula.TheBlock as block

@@ -1,5 +1,5 @@
 -- Each action keeps scoped works, for what stands on the table: what is handed to an action is scoped in the variables of its work.
-use Rattle.std.proofs.Common.{ℕ, Bool, true, List, [], ◌∷◌, length, arith, Option}
+use Rattle.std.proofs.Common.{Bool, List, length, arith, Option}
 use Rattle.pm_logic.specs.declared.formula.Term.{Term}
 use Rattle.pm_logic.specs.declared.formula.Pure as P
 use Rattle.pm_logic.specs.declared.formula.Formula.{Formula}
@@ -9,8 +9,7 @@ use Rattle.pm_goal.specs.declared.work.Work.{Work}
 use Rattle.pm_goal.specs.declared.work.Lemmas.{Lemmas}
 use Rattle.pm_patterns.specs.declared.pattern.Pat.{Pat}
 use Rattle.pm_patterns.specs.declared.pattern.Spat.{Spat}
-use Rattle.pm_patterns.specs.declared.pattern.Cert.{Cert}
-use Rattle.pm_table.specs.Outcomes.{Outcome, Action}
+use Rattle.pm_table.specs.Outcomes.{Action}
 use Rattle.pm_table.specs.Limits.{limited}
 use Rattle.pm_table.specs.Works.{Named}
 use Rattle.pm_table.specs.Introductions as introductions
@@ -21,13 +20,12 @@ use Rattle.pm_table.specs.Modalities as modalities
 use Rattle.pm_table.specs.Rewriting as rewriting
 use Rattle.pm_table.specs.Heap as heap
 use Rattle.pm_table.specs.Loeb as bodies
-use Rattle.pm_table.specs.Linears as linears
 use Rattle.pm_table.specs.Terms as terms
 use Rattle.pm_table.specs.Patterns as patterns
 use Rattle.pm_table.specs.Scopes.{IsWorkScoped, AreBodiesScoped, AreLemmasScoped}
-use Rattle.pm_table.proofs.Keeping.{InOutcome, Good}
+use Rattle.pm_table.proofs.Keeping.{InOutcome}
 use Rattle.pm_table.proofs.Outcomes.{limited_in}
-use Rattle.pm_table.proofs.Scoping.{Inside, itself, all_scoped, good_scoped}
+use Rattle.pm_table.proofs.Scoping.{Inside, itself, all_scoped}
 use Rattle.pm_table.proofs.ScopedHands as by_hands
 use Rattle.pm_table.proofs.ScopedGoals as by_goals
 use Rattle.pm_table.proofs.ScopedTerms as by_terms

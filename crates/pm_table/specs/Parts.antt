@@ -10,7 +10,6 @@ use Rattle.pm_logic.specs.Substitution.{shift_of}
 use Rattle.pm_goal.specs.declared.work.Work.{Work}
 use Rattle.pm_patterns.specs.declared.pattern.Pat.{Pat}
 use Rattle.pm_table.specs.Outcomes.{Outcome, gives, refused, Action}
-use Rattle.pm_table.specs.declared.place.Place.{Place}
 use Rattle.pm_table.specs.Limits.{work_formulas, work_at}
 use Rattle.pm_table.specs.Works.{Named}
 use Rattle.pm_table.specs.Introductions as introductions
