@@ -3,6 +3,7 @@ use Rattle.std.proofs.Common.{ℕ, ◌≤◌, true, List, [], ◌∷◌, length,
 use Rattle.pm_logic.specs.declared.formula.Term.{Term}
 use Rattle.pm_logic.specs.declared.formula.Preds.{Preds}
 use Rattle.pm_logic.specs.Scope.{TermScoped, TermsScoped, PureScoped, Scoped}
+use Rattle.pm_goal.specs.declared.goal.Goal.{Goal}
 use Rattle.pm_goal.specs.declared.work.Work.{Work}
 use Rattle.pm_goal.specs.declared.work.Lemmas.{Lemmas}
 use Rattle.pm_script.specs.declared.directive.Directive.{Directive}
