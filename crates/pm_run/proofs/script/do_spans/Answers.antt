@@ -1,5 +1,5 @@
 use Rattle.std.proofs.Common.{subst, Option}
-use Rattle.pm_run.specs.declared.script.Stop.{Stop}
+use Rattle.pm_run.specs.declared.stop.Stop.{Stop}
 use Rattle.pm_run.specs.Looping.{AtSpan}
 use Rattle.pm_run.proofs.Looped.{first_of, turn_kept}
 use Rattle.pm_run.proofs.script.do_spans.Goals as goal
