@@ -31,7 +31,9 @@ one_end size rest n s _ _ _ (is_refused p x e u) (goes_on q y t f v run) = absur
 one_end size rest n s _ _ _ (goes_on p x new e u run) (does_not_read q f) = absurd (read_or_not _ _ _ e f)
 one_end size rest n s _ _ _ (goes_on p x new e u run) (is_unbuilt q y f v) = absurd (unbuilt_moves _ (one_done s _ y x _ _ f e v u))
 one_end size rest n s _ _ _ (goes_on p x new e u run) (is_refused q y f v) = absurd (refuses_moves _ _ (one_done s _ y x _ _ f e v u))
-one_end size rest n s _ _ _ (goes_on p x new e u run) (goes_on q y t f v run') = subst (λ (z : State). (w : RunsFrom size rest (n + 1) z _ _) → Same size rest (n + 1) new z _ _ _ run w) (same_state new t (one_done s _ x y _ _ e f u v)) (λ w. one_end size rest (n + 1) new _ _ _ run w) run'
+one_end size rest n s _ _ _ (goes_on p {ps = ps} x new {o = a} e u run) (goes_on q y t {o = b} f v run') =
+    let same : new ≡ t = same_state new t (one_done s _ x y _ _ e f u v) in
+    subst (λ (z : State). (w : RunsFrom size rest (n + 1) z ps b) → Same size rest (n + 1) new z ps a b run w) same (λ w. one_end size rest (n + 1) new ps a b run w) run'
 one_end size rest n s _ _ _ (is_cut_off i e) (is_cut_off j f) = (refl, ap (λ (k : ℕ). Some (stop.Unreadable (Unexpected k))) (same_place rest i j e f))
 one_end size rest n s _ _ _ (is_cut_off i e) (ends_inside f h) = absurd (some_or_none rest i e f)
 one_end size rest n s _ _ _ (is_cut_off i e) (ends f h) = absurd (some_or_none rest i e f)
