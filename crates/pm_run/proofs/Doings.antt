@@ -418,8 +418,8 @@ does_directive old new x d h s k = go (step_of x) refl h
     go (Some step) e h = does_by s (sentence.Directive x) (step_name step) (directive_rows s.proof step) (directive_state s s.proof step) old new d (λ a y. subst (λ (o : Option Step). runs.Directs s o a) (sym e) y) (h s k)
 
 -- a sentence that isn't built
-pub does_nothing : (s : State) (x : Sentence) (old new : Running) → Does s x unbuilt → IsDoing s x old new done.Unbuilt
-does_nothing s x old new h = record { answer = unbuilt; does = h; is_done = refl }
+pub does_nothing : (s : State) (x : Sentence) (old : Running) → Does s x unbuilt → IsDoing s x old old done.Unbuilt
+does_nothing s x old h = record { answer = unbuilt; does = h; is_done = (refl, refl) }
 
 pub not_built : (s : State) (x : Sentence) → (x ≡ sentence.Abort) ⊎ ((x ≡ sentence.Restart) ⊎ ((x ≡ sentence.Show) ⊎ (((n : ℕ) × (x ≡ sentence.Undo n)) ⊎ ((x ≡ sentence.Enter) ⊎ (x ≡ sentence.Leave))))) → Does s x unbuilt
 unfolding Does

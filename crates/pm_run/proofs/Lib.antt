@@ -14,3 +14,6 @@ pub mod Looped
 pub mod Sayable
 pub mod Decisions
 pub mod SomeRun
+pub mod Halts
+pub mod OneHalt
+pub mod Endings

@@ -36,11 +36,12 @@ use Rattle.pm_goal.specs.declared.refusal.Row.TheVariants.{GoalsRemain}
 use Rattle.pm_run.specs.declared.running.Running.{Running}
 use Rattle.pm_run.specs.declared.running.Done.{Done}
 use Rattle.pm_run.specs.declared.running.Done.TheVariants as done
-use Rattle.pm_run.specs.declared.script.Stop.{Stop}
-use Rattle.pm_run.specs.declared.script.Stop.TheVariants as stop
+use Rattle.pm_run.specs.declared.stop.Stop.{Stop}
+use Rattle.pm_run.specs.declared.stop.Stop.TheVariants as stop
 use Rattle.pm_run.specs.Runs.{OpenProof, State, start, scope, scope_by, Answer, moves, refuses, unbuilt, Does, Outcome, accepted, refused, unreadable, RunsFrom, does_not_read, is_unbuilt, is_refused, goes_on, is_cut_off, ends_inside, ends}
 use Rattle.pm_run.specs.Keeping.{Keeps, IsLeft, KeepsProofs, tables, scope_of, IsKept, IsDone, DoesSentence}
 use Rattle.pm_run.proofs.Doings.{kept_open}
+use Rattle.pm_run.proofs.Halts.{halts_unread, halts_refused, halts_unbuilt, halts_on}
 use Rattle.pm_run.specs.Coming.{limit, ComesTo}
 use Rattle.pm_run.specs.Looping.{outcome, stop_of, stopped, Goes, AtSpan, AtSpans, LeadsTo, IsShort, AreShort, ComesFrom, end_parts, end_rest, Ends, EndsWith, EndIsShort, IsCut}
 
@@ -84,25 +85,33 @@ few_names r k = omega (arith, ap length (scope_is r k.state k.kept), few_by (tab
 read_here : (r : Running) (s : State) (base : ℕ) (text : List ℕ) → Keeps r s → read_sentence base s.preds (scope s) text ≡ read_sentence base r.preds.list (scope_of r) text
 read_here r s base text k = ap (λ (ns : Names). read_sentence base s.preds ns text) (sym (scope_is r s k)) ∙ ap (λ (qs : List Pred). read_sentence base qs (scope_of r) text) (sym k.preds_are)
 
-pub unread_span : (old : Running) (n : ℕ) (span : Span) (new : Running) (f : TextFault) → read_sentence span.offset old.preds.list (scope_of old) span.text ≡ Err f → AtSpan old n span new (Some (stop.Unreadable f))
-unread_span old n span new f e = λ s k size left more. does_not_read (part_of span) (read_here old s span.offset span.text k ∙ e)
+pub unread_span : (old : Running) (n : ℕ) (span : Span) (f : TextFault) → read_sentence span.offset old.preds.list (scope_of old) span.text ≡ Err f → AtSpan old n span old (Some (stop.Unreadable f))
+unread_span old n span f e = λ s k.
+    let here = read_here old s span.offset span.text k ∙ e in
+    record { state = s; kept = k; stops = λ size left more. does_not_read (part_of span) here; halts = λ size left more. halts_unread size left n s (part_of span) more f here }
 
-answered : (n : ℕ) (s : State) (p : Part) (x : Sentence) (old new : Running) (d : Done) (a : Answer) → read_sentence p.offset s.preds (scope s) p.text ≡ Ok x → Does s x a → IsDone old new a d → Goes n s (p ∷ []) new (n + 1) (stop_of n p d)
-answered n s p x old new done.Moved (moves t) e does h = record { state = t; kept = h.1; leads = λ size left more o run. goes_on p x t e does run }
-answered n s p x old new done.Moved (refuses q) e does h = absurd (cc h.0)
-answered n s p x old new done.Moved unbuilt e does h = absurd (cc h)
-answered n s p x old new (done.Refused r) (moves t) e does h = absurd (cc h.0)
-answered n s p x old new (done.Refused r) (refuses q) e does h = let same : q ≡ r = cc h.0 in λ size left more. is_refused p x e (subst (λ q. Does s x (refuses q)) same does)
-answered n s p x old new (done.Refused r) unbuilt e does h = absurd (cc h)
-answered n s p x old new done.Unbuilt (moves t) e does h = absurd (cc h.0)
-answered n s p x old new done.Unbuilt (refuses q) e does h = absurd (cc h.0)
-answered n s p x old new done.Unbuilt unbuilt e does h = λ size left more. is_unbuilt p x e does
+stays : (old new : Running) (s : State) → Keeps old s → new ≡ old → Keeps new s
+stays old new s k same = subst (λ (r : Running). Keeps r s) (sym same) k
+
+answered : (n : ℕ) (s : State) (p : Part) (x : Sentence) (old new : Running) (d : Done) (a : Answer) → read_sentence p.offset s.preds (scope s) p.text ≡ Ok x → Keeps old s → Does s x a → IsDone old new a d → Goes n s (p ∷ []) new (n + 1) (stop_of n p d)
+answered n s p x old new done.Moved (moves t) e k does h = record { state = t; kept = h.1; leads = λ size left more o run. goes_on p x t e does run; halts = λ size left more last by run. halts_on size left n s p more x t last by e does run }
+answered n s p x old new done.Moved (refuses q) e k does h = absurd (cc h.0)
+answered n s p x old new done.Moved unbuilt e k does h = absurd (cc h.0)
+answered n s p x old new (done.Refused r) (moves t) e k does h = absurd (cc h.0)
+answered n s p x old new (done.Refused r) (refuses q) e k does h =
+    let same : q ≡ r = cc h.0 in
+    let refuses_it : Does s x (refuses r) = subst (λ q. Does s x (refuses q)) same does in
+    record { state = s; kept = stays old new s k h.1; stops = λ size left more. is_refused p x e refuses_it; halts = λ size left more. halts_refused size left n s p more x r e refuses_it }
+answered n s p x old new (done.Refused r) unbuilt e k does h = absurd (cc h.0)
+answered n s p x old new done.Unbuilt (moves t) e k does h = absurd (cc h.0)
+answered n s p x old new done.Unbuilt (refuses q) e k does h = absurd (cc h.0)
+answered n s p x old new done.Unbuilt unbuilt e k does h = record { state = s; kept = stays old new s k h.1; stops = λ size left more. is_unbuilt p x e does; halts = λ size left more. halts_unbuilt size left n s p more x e does }
 
 pub done_span : (old : Running) (n : ℕ) (span : Span) (x : Sentence) (new : Running) (d : Done) → read_sentence span.offset old.preds.list (scope_of old) span.text ≡ Ok x → DoesSentence old x new d → AtSpan old n span new (stop_of n (part_of span) d)
 done_span old n span x new d e does = λ s k.
     let here = read_here old s span.offset span.text k ∙ e in
     let doing = does s k (sayable s span.offset (scope s) span.text x here) in
-    answered n s (part_of span) x old new d doing.answer here doing.does doing.is_done
+    answered n s (part_of span) x old new d doing.answer here k doing.does doing.is_done
 
 -- ---- sentences one after another
 
@@ -110,7 +119,14 @@ pub leads_on : (old : Running) (n : ℕ) (spans : List Span) (r : Running) (m : 
 leads_on old n spans r m span tail new before turn = λ s k.
     let a = before s k in
     let b = turn a.state a.kept in
-    record { state = b.state; kept = b.kept; leads = λ size left more o h. a.leads size left more o (b.leads size left (parts_of tail ++ more) o h) }
+    record { state = b.state; kept = b.kept; leads = λ size left more o h. a.leads size left more o (b.leads size left (parts_of tail ++ more) o h); halts = λ size left more last by h. a.halts size left more last by (b.halts size left (parts_of tail ++ more) last by h) }
+
+-- the run stops at the next sentence
+pub stops_on : (old : Running) (n : ℕ) (spans : List Span) (r : Running) (m : ℕ) (span : Span) (tail : List Span) (new : Running) (k : ℕ) (at : Stop) → LeadsTo old n spans r m (span ∷ tail) → AtSpan r m span new (Some at) → AtSpans old n spans new k (Some at)
+stops_on old n spans r m span tail new k at before turn = λ s h.
+    let a = before s h in
+    let b = turn a.state a.kept in
+    record { state = b.state; kept = b.kept; stops = λ size left more. a.leads size left more (outcome at) (b.stops size left (parts_of tail ++ more)); halts = λ size left more. a.halts size left more b.state (Some at) (b.halts size left (parts_of tail ++ more)) }
 
 pub kept_behind : (r : Running) (n : ℕ) (span : Span) (new : Running) → IsKept r → AtSpan r n span new None → IsKept new
 kept_behind r n span new k turn = let b = turn k.state k.kept in record { state = b.state; kept = b.kept }
@@ -154,7 +170,7 @@ comes_on size left m t qs n s ps lead (ran.Refused number offset refusal) h = le
 comes_on size left m t qs n s ps lead (ran.Unreadable fault) h = lead (unreadable fault) h
 
 pub ends_stopped : (r : Running) (n size : ℕ) (span : Span) (new : Running) (at : Stop) → AtSpan r n span new (Some at) → EndsWith r n size span (stopped at)
-ends_stopped r n size span new at h = λ s k. comes_stopped size None n s (part_of span ∷ []) at (h s k size None [])
+ends_stopped r n size span new at h = λ s k. comes_stopped size None n s (part_of span ∷ []) at ((h s k).stops size None [])
 
 pub ends_behind : (r : Running) (n size : ℕ) (span : Span) (new : Running) (result : Ran) → AtSpan r n span new None → Ends new (n + 1) size clean result → EndsWith r n size span result
 ends_behind r n size span new result turn behind = λ s k.
@@ -181,7 +197,7 @@ splits fs cs r (inr x) none = subst (Splits fs cs r) (sym (ap (λ (cs : List Par
 end_splits : (bytes : List ℕ) → Splits (finished bytes) (cut bytes) (rest_of bytes) (drop (length (finished bytes)) (cut bytes))
 end_splits bytes = splits (finished bytes) (cut bytes) (rest_of bytes) (cutting_is_steady.ends bytes) (cutting_is_steady.nothing_left bytes)
 
-cut_is : (bytes : List ℕ) (spans : List Span) (end : Ended) → IsCut bytes spans end → (cut bytes ≡ parts_of spans ++ end_parts (end_from end)) × (rest_of bytes ≡ end_rest (end_from end))
+pub cut_is : (bytes : List ℕ) (spans : List Span) (end : Ended) → IsCut bytes spans end → (cut bytes ≡ parts_of spans ++ end_parts (end_from end)) × (rest_of bytes ≡ end_rest (end_from end))
 unfolding end_of
 cut_is bytes spans end is =
     let h = end_splits bytes in
@@ -199,7 +215,7 @@ cut_comes bytes spans end is result h =
 
 pub run_stopped : (bytes : List ℕ) (spans : List Span) (end : Ended) (first new : Running) (m : ℕ) (at : Stop) → IsCut bytes spans end → Keeps first start → AtSpans first 1 spans new m (Some at) → ComesTo bytes (stopped at)
 run_stopped bytes spans end first new m at is k went =
-    cut_comes bytes spans end is (stopped at) (comes_stopped (length bytes) (end_rest (end_from end)) 1 start (parts_of spans ++ end_parts (end_from end)) at (went start k (length bytes) (end_rest (end_from end)) (end_parts (end_from end))))
+    cut_comes bytes spans end is (stopped at) (comes_stopped (length bytes) (end_rest (end_from end)) 1 start (parts_of spans ++ end_parts (end_from end)) at ((went start k).stops (length bytes) (end_rest (end_from end)) (end_parts (end_from end))))
 
 pub run_ended : (bytes : List ℕ) (spans : List Span) (end : Ended) (first new : Running) (m : ℕ) (result : Ran) → IsCut bytes spans end → Keeps first start → AtSpans first 1 spans new m None → Ends new m (length bytes) (end_from end) result → ComesTo bytes result
 run_ended bytes spans end first new m result is k went behind =

@@ -87,44 +87,44 @@ one_does s x a b u v = both_are u v
 
 -- ---- a run comes to one thing
 
-abbrev Read : Type 0
+abbrev pub Read : Type 0
 Read = Result Sentence TextFault
 
 same_sentence : (r : Read) (x y : Sentence) → r ≡ Ok x → r ≡ Ok y → x ≡ y
 same_sentence r x y e f = cc
 
-same_fault : (r : Read) (f g : TextFault) → r ≡ Err f → r ≡ Err g → f ≡ g
+pub same_fault : (r : Read) (f g : TextFault) → r ≡ Err f → r ≡ Err g → f ≡ g
 same_fault r f g e h = cc
 
-read_or_not : (r : Read) (x : Sentence) (f : TextFault) → r ≡ Ok x → r ≡ Err f → ⊥
+pub read_or_not : (r : Read) (x : Sentence) (f : TextFault) → r ≡ Ok x → r ≡ Err f → ⊥
 read_or_not r x f e h = cc
 
 -- what a sentence that was read does
-one_done : (s : State) (r : Read) (x y : Sentence) (a b : Answer) → r ≡ Ok x → r ≡ Ok y → Does s x a → Does s y b → a ≡ b
+pub one_done : (s : State) (r : Read) (x y : Sentence) (a b : Answer) → r ≡ Ok x → r ≡ Ok y → Does s x a → Does s y b → a ≡ b
 one_done s r x y a b e f u v = one_does s x a b u (subst (λ (z : Sentence). Does s z b) (same_sentence r y x f e) v)
 
-same_place : (o : Option ℕ) (i j : ℕ) → o ≡ Some i → o ≡ Some j → i ≡ j
+pub same_place : (o : Option ℕ) (i j : ℕ) → o ≡ Some i → o ≡ Some j → i ≡ j
 same_place o i j e f = cc
 
-some_or_none : (o : Option ℕ) (i : ℕ) → o ≡ Some i → o ≡ None → ⊥
+pub some_or_none : (o : Option ℕ) (i : ℕ) → o ≡ Some i → o ≡ None → ⊥
 some_or_none o i e f = cc
 
-open_or_not : (b : Bool) → b ≡ true → b ≡ false → ⊥
+pub open_or_not : (b : Bool) → b ≡ true → b ≡ false → ⊥
 open_or_not b e f = cc
 
-same_refusal : (q r : Refusal) → refuses q ≡ refuses r → q ≡ r
+pub same_refusal : (q r : Refusal) → refuses q ≡ refuses r → q ≡ r
 same_refusal q r e = cc
 
-same_state : (s t : State) → moves s ≡ moves t → s ≡ t
+pub same_state : (s t : State) → moves s ≡ moves t → s ≡ t
 same_state s t e = cc
 
-unbuilt_refuses : (r : Refusal) → unbuilt ≡ refuses r → ⊥
+pub unbuilt_refuses : (r : Refusal) → unbuilt ≡ refuses r → ⊥
 unbuilt_refuses r e = cc
 
-unbuilt_moves : (s : State) → unbuilt ≡ moves s → ⊥
+pub unbuilt_moves : (s : State) → unbuilt ≡ moves s → ⊥
 unbuilt_moves s e = cc
 
-refuses_moves : (r : Refusal) (s : State) → refuses r ≡ moves s → ⊥
+pub refuses_moves : (r : Refusal) (s : State) → refuses r ≡ moves s → ⊥
 refuses_moves r s e = cc
 
 behind : (size : ℕ) (rest : Option ℕ) (n : ℕ) (ps : List Part) (o : Outcome) (s t : State) → s ≡ t → RunsFrom size rest n t ps o → RunsFrom size rest n s ps o

@@ -108,7 +108,7 @@ IsSayable s x = Unit {0}
 
 -- ---- what the code of a sentence answers, behind the table's rows
 
--- after a refusal everything is as before
+-- after a refusal everything is as before, and after a sentence that isn't built
 abbrev pub IsAnswered : (name : List ℕ) → Table → State → (old new : Running) → Done → Type 0
 IsAnswered name table state old new done.Moved = table None × Keeps new state
 IsAnswered name table state old new (done.Refused r) = (row : Row) × table (Some row) × (r ≡ refusal row name) × (new ≡ old)
@@ -117,7 +117,7 @@ IsAnswered name table state old new done.Unbuilt = ⊥
 abbrev pub IsDone : (old new : Running) → Answer → Done → Type 0
 IsDone old new (moves s) d = (d ≡ done.Moved) × Keeps new s
 IsDone old new (refuses r) d = (d ≡ done.Refused r) × (new ≡ old)
-IsDone old new unbuilt d = d ≡ done.Unbuilt
+IsDone old new unbuilt d = (d ≡ done.Unbuilt) × (new ≡ old)
 
 pub record IsDoing (s : State) (x : Sentence) (old new : Running) (d : Done) : Type 0 where
   pub answer : Answer
@@ -208,7 +208,7 @@ abbrev pub Directs : Running → Step → Running → Done → Type 0
 Directs old d new done = (s : State) → Keeps old s → IsAnswered (step_name d) (directive_rows s.proof d) (directive_state s s.proof d) old new done
 
 abbrev pub DirectsIf : Running → Option Step → Running → Done → Type 0
-DirectsIf old None new d = d ≡ done.Unbuilt
+DirectsIf old None new d = (d ≡ done.Unbuilt) × (new ≡ old)
 DirectsIf old (Some step) new d = Directs old step new d
 
 -- ---- whole sentences

@@ -7,3 +7,4 @@ pub mod Runs
 pub mod Stepping
 pub mod Steps
 pub mod Looping
+pub mod Halting

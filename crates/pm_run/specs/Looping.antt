@@ -15,11 +15,12 @@ use Rattle.pm_run.specs.declared.running.Done.TheVariants as done
 use Rattle.pm_terms.specs.declared.fault.TextFault.TheVariants.{Unexpected}
 use Rattle.pm_run.specs.declared.ran.Ran.{Ran}
 use Rattle.pm_run.specs.declared.ran.Ran.TheVariants as ran
-use Rattle.pm_run.specs.declared.script.Stop.{Stop}
-use Rattle.pm_run.specs.declared.script.Stop.TheVariants as stop
+use Rattle.pm_run.specs.declared.stop.Stop.{Stop}
+use Rattle.pm_run.specs.declared.stop.Stop.TheVariants as stop
 use Rattle.pm_run.specs.Runs.{State, Outcome, accepted, refused, unreadable, RunsFrom}
 use Rattle.pm_run.specs.Keeping.{Keeps}
 use Rattle.pm_run.specs.Coming.{limit}
+use Rattle.pm_run.specs.Halting.{HaltsFrom, Halts}
 
 -- ---- where a run stops
 
@@ -44,14 +45,18 @@ pub record Leads (n : ℕ) (s : State) (ps : List Part) (r : Running) (m : ℕ) 
   pub state : State
   pub kept : Keeps r state
   pub leads : (size : ℕ) (left : Option ℕ) (more : List Part) (o : Outcome) → RunsFrom size left m state (qs ++ more) o → RunsFrom size left n s (ps ++ more) o
+  pub halts : (size : ℕ) (left : Option ℕ) (more : List Part) (last : State) (by : Option Stop) → HaltsFrom size left m state (qs ++ more) last by → HaltsFrom size left n s (ps ++ more) last by
 
--- the run stops in these parts, whatever follows
-abbrev pub Stops : ℕ → State → List Part → Stop → Type 0
-Stops n s ps at = (size : ℕ) (left : Option ℕ) (more : List Part) → RunsFrom size left n s (ps ++ more) (outcome at)
+-- a state is kept in which the run stops in these parts, whatever follows
+pub record Stops (n : ℕ) (s : State) (ps : List Part) (r : Running) (at : Stop) : Type 0 where
+  pub state : State
+  pub kept : Keeps r state
+  pub stops : (size : ℕ) (left : Option ℕ) (more : List Part) → RunsFrom size left n s (ps ++ more) (outcome at)
+  pub halts : (size : ℕ) (left : Option ℕ) (more : List Part) → HaltsFrom size left n s (ps ++ more) state (Some at)
 
 abbrev pub Goes : ℕ → State → List Part → Running → ℕ → Option Stop → Type 0
 Goes n s ps r m None = Leads n s ps r m []
-Goes n s ps r m (Some at) = Stops n s ps at
+Goes n s ps r m (Some at) = Stops n s ps r at
 
 abbrev pub AtSpan : Running → ℕ → Span → Running → Option Stop → Type 0
 AtSpan old n span new at = (s : State) → Keeps old s → Goes n s (part_of span ∷ []) new (n + 1) at
@@ -106,6 +111,23 @@ abbrev pub EndIsShort : Ended → Type 0
 EndIsShort ended.Clean = Unit {0}
 EndIsShort (ended.Last span) = IsShort span
 EndIsShort (ended.Rest at) = Unit {0}
+
+-- ---- where a run ends
+
+-- a state is kept in which these sentences end, and this stops them there, or nothing
+pub record HaltsWith (left : Option ℕ) (n : ℕ) (s : State) (ps : List Part) (r : Running) (by : Option Stop) : Type 0 where
+  pub state : State
+  pub kept : Keeps r state
+  pub halts : (size : ℕ) → HaltsFrom size left n s ps state by
+
+abbrev pub HaltsAtEnd : Running → ℕ → End → Running → Option Stop → Type 0
+HaltsAtEnd old n end new by = (s : State) → Keeps old s → HaltsWith (end_rest end) n s (end_parts end) new by
+
+-- a state is kept in which a script ends, and this stops it there, or nothing
+pub record HaltsKept (bytes : List ℕ) (r : Running) (by : Option Stop) : Type 0 where
+  pub state : State
+  pub kept : Keeps r state
+  pub halts : Halts bytes state by
 
 -- ---- scripts that are cut
 

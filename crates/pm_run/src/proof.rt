@@ -25,7 +25,7 @@ pub struct Proof {
 }
 
 /// Adds goals, of which the first one is to be last.
-fn add_goals(goals: &mut List<Goal>, more: List<Goal>) -> Result<(), Memory>
+pub fn add_goals(goals: &mut List<Goal>, more: List<Goal>) -> Result<(), Memory>
     ensures { OnOk result (reverse goals.new ≡ more ++ reverse goals.old) }
 {
     let mut more = more;

@@ -10,6 +10,7 @@ ghost use Rattle.pm_run.specs.Looping.{stop_of, AtSpan, AtSpans, Ends, EndsWith,
 
 use crate::ran::Ran;
 use crate::running::{Done, Running};
+use crate::stop::Stop;
 use pm_cutter::{Cutter, Ended, Span};
 use pm_goal::{Goal, Refusal, Row};
 use pm_logic::{List, MAX_NAMES, MAX_TABLE, Memory, Name, Preds, copy_name};
@@ -17,17 +18,6 @@ use pm_script::{Sentence, read_sentence};
 use pm_terms::TextFault;
 use pm_write::write_derivation;
 use std::alloc::Global;
-
-/// Where a run stops.
-#[derive(Drop)]
-pub enum Stop {
-    Refused {
-        number: u64,
-        offset: u64,
-        refusal: Refusal,
-    },
-    Unreadable(TextFault),
-}
 
 /// What a run comes to that stops there.
 fn stopped(stop: Stop) -> Ran
@@ -125,7 +115,7 @@ fn do_read(
 }
 
 /// Reads the sentence of this number and does it; where the run stops at it.
-fn do_span(
+pub fn do_span(
     alloc: Global,
     running: &mut Running,
     number: u64,
@@ -151,7 +141,7 @@ fn following(number: u64) -> Result<u64, Memory>
 }
 
 /// Does the sentences of a slice, from one of this number on; where the run stops at one of them.
-fn do_spans(
+pub fn do_spans(
     alloc: Global,
     running: &mut Running,
     number: &mut u64,
@@ -235,7 +225,7 @@ fn end(alloc: Global, running: Running, number: u64, size: u64, end: &Ended) -> 
 }
 
 /// Cuts a script into the sentences that are finished and the end.
-fn cut(alloc: Global, bytes: &[u8]) -> Result<(List<Span>, Ended), Memory>
+pub fn cut(alloc: Global, bytes: &[u8]) -> Result<(List<Span>, Ended), Memory>
     requires { length bytes.now ≤ limit }
     ensures { IfOk result (λ cut. IsCut bytes.now cut.0 cut.1) }
 {

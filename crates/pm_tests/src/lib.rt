@@ -27,6 +27,8 @@ mod run;
 #[cfg(test)]
 mod script;
 #[cfg(test)]
+mod shown;
+#[cfg(test)]
 mod sums;
 #[cfg(test)]
 mod text;

@@ -9,23 +9,34 @@ use Rattle.pm_run.specs.Coming.{limit}
 use Rattle.pm_check.specs.Answers.{IfTold}
 use Rattle.pm_top.specs.Truth.{SaysTrue}
 use Rattle.pm_top.specs.declared.command.Command.{Command}
-use Rattle.pm_top.specs.declared.command.Command.TheVariants.{Check, Run}
+use Rattle.pm_top.specs.declared.command.Command.TheVariants.{Check, Run, Goals}
 use Rattle.pm_top.specs.declared.status.Status.{Status}
 use Rattle.pm_top.specs.declared.status.Status.TheVariants as status
-use Rattle.pm_top.specs.Answers.{too_long_line, Checks, Runs, Answers, IsLong, longest, Defines, Defines.usage, Defines.answer, Defines.too_long}
+use Rattle.pm_top.specs.Answers.{too_long_line, Checks, Runs, Answers, ReadsScripts, IsLong, longest, Defines, Defines.usage, Defines.answer, Defines.too_long}
 use Rattle.pm_top.specs.Leaves.{IsAnswer, Writes, Leaves, DefinesText, IsDefined}
 use Rattle.pm_top.proofs.Answering.{one_answer, says_truth}
+use Rattle.pm_top.proofs.ShownAnswers.{one_shown}
 use Rattle.pm_top.proofs.RunAnswers.{one_run_answer, accepted_done, run_truth}
 
 -- ---- what is defined
 
-pub defines_long : (input : Option (List ℕ)) → HasMoreThan input 16777216 → Defines (Some Run) input status.TooLong too_long_line
-defines_long None h = Defines.too_long Run None tt
-defines_long (Some bytes) h = Defines.too_long Run (Some bytes) h
+script_long : (command : Command) → ReadsScripts command → (bytes : List ℕ) → 16777216 < length bytes → IsLong command bytes
+script_long Check no bytes long = absurd no
+script_long Run some bytes long = long
+script_long Goals some bytes long = long
 
-pub defines_run : (input left : Option (List ℕ)) (bytes : List ℕ) (s : Status) (text : List ℕ) → length bytes ≤ 16777216 → TakesAll input left bytes → Runs bytes s text → Defines (Some Run) input s text
-defines_run None left bytes s text short h a = Defines.answer Run None bytes s text tt short a
-defines_run (Some xs) left bytes s text short h a = Defines.answer Run (Some xs) bytes s text h.0 short a
+pub defines_long : (command : Command) → ReadsScripts command → (input : Option (List ℕ)) → HasMoreThan input 16777216 → Defines (Some command) input status.TooLong too_long_line
+defines_long command some None h = Defines.too_long command None tt
+defines_long command some (Some bytes) h = Defines.too_long command (Some bytes) (script_long command some bytes h)
+
+script_short : (command : Command) → ReadsScripts command → (bytes : List ℕ) → length bytes ≤ 16777216 → length bytes ≤ longest command
+script_short Check no bytes short = absurd no
+script_short Run some bytes short = short
+script_short Goals some bytes short = short
+
+pub defines_script : (command : Command) → ReadsScripts command → (input left : Option (List ℕ)) (bytes : List ℕ) (s : Status) (text : List ℕ) → length bytes ≤ 16777216 → TakesAll input left bytes → Answers command bytes s text → Defines (Some command) input s text
+defines_script command some None left bytes s text short h a = Defines.answer command None bytes s text tt (script_short command some bytes short) a
+defines_script command some (Some xs) left bytes s text short h a = Defines.answer command (Some xs) bytes s text h.0 (script_short command some bytes short) a
 
 -- ---- what the writer of a line leaves
 
@@ -50,10 +61,12 @@ leaves command input old new s r text d nr whole front = go r nr whole front
 not_long : (command : Command) (bytes : List ℕ) → length bytes ≤ longest command → ¬ IsLong command bytes
 not_long Check bytes short long = let many = long.many in omega (arith, many, short)
 not_long Run bytes short long = omega (arith, long, short)
+not_long Goals bytes short long = omega (arith, long, short)
 
 same_answer : (command : Command) (bytes : List ℕ) (s r : Status) (text line : List ℕ) → length bytes ≤ longest command → Answers command bytes s text → Answers command bytes r line → (s ≡ r) × (DefinesText (Some command) r → text ≡ line)
 same_answer Check bytes s r text line few d e = let same = one_answer bytes s r text line few d e in (same.0, λ h. same.1)
 same_answer Run bytes s r text line few d e = one_run_answer bytes s r text line d e
+same_answer Goals bytes s r text line few d e = let same = one_shown bytes s r text line d e in (same.0, λ h. same.1)
 
 same_defined : (command : Option Command) (bytes : List ℕ) (s r : Status) (text line : List ℕ) → Defines command (Some bytes) s text → Defines command (Some bytes) r line → (s ≡ r) × (DefinesText command r → text ≡ line)
 same_defined _ bytes _ _ _ _ (usage _) (usage _) = (refl, λ h. refl)
@@ -76,8 +89,10 @@ writes_of command input old new status.Memory a w = absurd a
 accepted_answer : (command : Option Command) (bytes : List ℕ) (r : Status) (text : List ℕ) → Defines command (Some bytes) r text → command ≡ Some Run → length bytes ≤ limit → (preds : List Pred) (lemmas : List Statement) → RunsTo bytes (accepted preds lemmas) → r ≡ status.Done
 accepted_answer _ bytes _ _ (usage _) e short preds lemmas h = absurd cc
 accepted_answer _ bytes r text (answer Check _ xs _ _ told few a) e short preds lemmas h = absurd cc
+accepted_answer _ bytes r text (answer Goals _ xs _ _ told few a) e short preds lemmas h = absurd cc
 accepted_answer _ bytes r text (answer Run _ xs _ _ told few a) e short preds lemmas h = accepted_done bytes r text (subst (λ (b : List ℕ). Runs b r text) (sym told) a) preds lemmas h
 accepted_answer _ bytes _ _ (too_long Check _ long) e short preds lemmas h = absurd cc
+accepted_answer _ bytes _ _ (too_long Goals _ long) e short preds lemmas h = absurd cc
 accepted_answer _ bytes _ _ (too_long Run _ long) e short preds lemmas h = absurd (omega (arith, short, long))
 
 pub is_defined : (command : Option Command) (input old new : Option (List ℕ)) (r : Status) → Leaves command input old new r → IsDefined command input old new r
@@ -101,6 +116,7 @@ at_command command other input old new r e l = subst (λ (c : Option Command). L
 told_truth : (command : Option Command) (bytes : List ℕ) (old new : Option (List ℕ)) (text : List ℕ) → Defines command (Some bytes) status.Done text → Appends old new text → SaysTrue command old new bytes
 told_truth _ bytes old new text (answer Check _ xs _ _ told short a) w = says_truth bytes status.Done text refl (subst (λ (b : List ℕ). Checks b status.Done text) (sym told) a)
 told_truth _ bytes old new text (answer Run _ xs _ _ told short a) w = run_truth bytes old new status.Done text refl w (subst (λ (b : List ℕ). Runs b status.Done text) (sym told) a)
+told_truth _ bytes old new text (answer Goals _ xs _ _ told short a) w = tt
 
 pub leaves_truth : (command : Option Command) (input old new : Option (List ℕ)) (r : Status) → Leaves command input old new r → r ≡ status.Done → IfTold input (SaysTrue command old new)
 leaves_truth command None old new r l e = tt

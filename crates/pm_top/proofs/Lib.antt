@@ -3,3 +3,4 @@ pub mod Leaving
 pub mod Offences
 pub mod RunAnswers
 pub mod Shallow
+pub mod ShownAnswers

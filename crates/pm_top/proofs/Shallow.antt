@@ -15,7 +15,7 @@ use Rattle.pm_top.specs.Printed.{IsShallowPredicate, IsShallowStatement, AreShal
 
 -- ---- what holds of all items
 
-all_cons : {X : Type 0} (P : X → Type 0) (x : X) (xs : List X) → P x → All P xs → All P (x ∷ xs)
+pub all_cons : {X : Type 0} (P : X → Type 0) (x : X) (xs : List X) → P x → All P xs → All P (x ∷ xs)
 all_cons P x xs p a zero d lt = p
 all_cons P x xs p a (suc k) d lt = a k d (omega (arith, lt))
 

@@ -20,8 +20,9 @@ use Rattle.pm_run.specs.Runs.{refused, unreadable, RunsTo}
 use Rattle.pm_run.specs.Coming.{limit, Proves}
 use Rattle.pm_top.specs.Printed.{line_feed, accepted_text}
 use Rattle.pm_top.specs.RunTexts.{refusal_line, fault_line}
+use Rattle.pm_top.specs.Shown.{Shows}
 use Rattle.pm_top.specs.declared.command.Command.{Command}
-use Rattle.pm_top.specs.declared.command.Command.TheVariants.{Check, Run}
+use Rattle.pm_top.specs.declared.command.Command.TheVariants.{Check, Run, Goals}
 use Rattle.pm_top.specs.declared.status.Status.{Status}
 use Rattle.pm_top.specs.declared.status.Status.TheVariants as status
 
@@ -29,7 +30,7 @@ use Rattle.pm_top.specs.declared.status.Status.TheVariants as status
 
 -- the command that the words name
 abbrev pub command_of : List (String Global) → Option Command
-command_of (w ∷ []) = if bytes_eq (string_bytes w) (codes "check") then Some Check else if bytes_eq (string_bytes w) (codes "run") then Some Run else None
+command_of (w ∷ []) = if bytes_eq (string_bytes w) (codes "check") then Some Check else if bytes_eq (string_bytes w) (codes "run") then Some Run else if bytes_eq (string_bytes w) (codes "goals") then Some Goals else None
 command_of _ = None
 
 -- ---- the lines that are written, each with its line feed
@@ -89,16 +90,24 @@ pub data Runs (bytes : List ℕ) : Status → List ℕ → Type 0 where
 abbrev pub Answers : Command → List ℕ → Status → List ℕ → Type 0
 Answers Check bytes s text = Checks bytes s text
 Answers Run bytes s text = Runs bytes s text
+Answers Goals bytes s text = Shows bytes s text
+
+abbrev pub ReadsScripts : Command → Type 0
+ReadsScripts Check = ⊥
+ReadsScripts Run = Unit {0}
+ReadsScripts Goals = Unit {0}
 
 -- the longest input that the command answers; more than a check's longest is never held in memory
 abbrev pub longest : Command → ℕ
 longest Check = longest_derivation
 longest Run = limit
+longest Goals = limit
 
 -- an input that the command gives up on
 abbrev pub IsLong : Command → List ℕ → Type 0
 IsLong Check bytes = IsTooLong bytes
 IsLong Run bytes = limit < length bytes
+IsLong Goals bytes = limit < length bytes
 
 -- the status and the text that the words and the input define; the input is some input, where it isn't told
 pub data Defines : Option Command → Option (List ℕ) → Status → List ℕ → Type 0 where

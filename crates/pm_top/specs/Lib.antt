@@ -1,5 +1,6 @@
 pub mod Printed
 pub mod RunTexts
+pub mod Shown
 pub mod Answers
 pub mod Offences
 pub mod Leaves

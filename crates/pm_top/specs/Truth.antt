@@ -8,7 +8,7 @@ use Rattle.pm_check.specs.Derivation.{IsDerivation}
 use Rattle.pm_check.specs.Truth.{IsTrueStatement}
 use Rattle.pm_run.specs.Runs.{accepted, RunsTo}
 use Rattle.pm_top.specs.declared.command.Command.{Command}
-use Rattle.pm_top.specs.declared.command.Command.TheVariants.{Check, Run}
+use Rattle.pm_top.specs.declared.command.Command.TheVariants.{Check, Run, Goals}
 
 -- the bytes are a derivation, and each of its statements is true under its table: at every step, in every environment, by every resource
 pub record SaysTruth (bytes : List ℕ) : Type 0 where
@@ -32,3 +32,4 @@ abbrev pub SaysTrue : Option Command → (old new : Option (List ℕ)) → List 
 SaysTrue None old new bytes = ⊤
 SaysTrue (Some Check) old new bytes = SaysTruth bytes
 SaysTrue (Some Run) old new bytes = ProvesTruth bytes old new
+SaysTrue (Some Goals) old new bytes = ⊤

@@ -74,7 +74,7 @@ pub fn offence(alloc: Global, fault: CheckFault) -> Result<(Status, Bytes), Stat
 
 /// The line of a fault of a text. Want of memory is none, and has no line.
 #[tactic(auto, unfolding(crate::specs::RunTexts::fault_line))]
-fn unreadable(alloc: Global, fault: TextFault) -> Result<Bytes, Memory>
+pub fn unreadable(alloc: Global, fault: TextFault) -> Result<Bytes, Memory>
     ensures { IfOk result (λ text. text ≡ fault_line fault) }
 {
     let text = match fault {
@@ -116,7 +116,7 @@ fn name_text(alloc: Global, name: &Option<Name>) -> Result<Bytes, Memory>
 
 /// The line of a sentence that is refused.
 #[tactic(auto, using(crate::proofs::RunAnswers::spelled))]
-fn refusal(alloc: Global, number: u64, offset: u64, refusal: &Refusal) -> Result<Bytes, Memory>
+pub fn refusal(alloc: Global, number: u64, offset: u64, refusal: &Refusal) -> Result<Bytes, Memory>
     ensures { IfOk result (λ text. text ≡ refusal_line number offset refusal.now) }
 {
     let place = format!(in alloc; "refused: sentence {number} at {offset}: ")?;

@@ -13,6 +13,8 @@ pub enum Command {
     Check,
     /// Reads a script, and writes a derivation of its lemmas.
     Run,
+    /// Reads a script, and writes the goals that are left at its end.
+    Goals,
 }
 
 /// The command that the words after the program's name are, if they are one.
@@ -25,6 +27,8 @@ pub fn command_of(words: &[String]) -> Option<Command>
                 Some(Command::Check)
             } else if word.as_str() == "run" {
                 Some(Command::Run)
+            } else if word.as_str() == "goals" {
+                Some(Command::Goals)
             } else {
                 None
             }

@@ -5,6 +5,7 @@ mod answer;
 mod command;
 mod printed;
 mod program;
+mod shown;
 mod status;
 
 pub use pm_io::{

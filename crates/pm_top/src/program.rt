@@ -1,21 +1,23 @@
 //! All that the program does.
 
-ghost use Rattle.std.specs.Prelude.{◌≡◌, Some, None};
+ghost use Rattle.std.specs.Prelude.{◌≡◌, ◌≤◌, length, IfOk, Some, None};
 ghost use Rattle.std.specs.Io.KnownBytes.{Appends};
 ghost use Rattle.pm_io.specs.Causes.{Faulted};
 ghost use Rattle.pm_io.specs.Taken.{AppendsFront};
 ghost use Rattle.pm_check.specs.Answers.{IfTold, IsReadToEnd};
-ghost use Rattle.pm_top.specs.Answers.{command_of};
+ghost use Rattle.pm_run.specs.Coming.{limit};
+ghost use Rattle.pm_top.specs.Answers.{command_of, Answers, ReadsScripts};
 ghost use Rattle.pm_top.specs.Truth.{SaysTrue};
 ghost use Rattle.pm_top.specs.Leaves.{IsAnswer, Leaves, IsDefined};
 
 use crate::answer::{offence, run};
 use crate::command::{Command, command_of};
 use crate::printed::accepted;
+use crate::shown::shown;
 use crate::status::Status;
 use pm_check::check;
 use pm_io::{SendFault, Sink, Source, TakeFault, read_all, write_all};
-use pm_logic::MAX_SCRIPT;
+use pm_logic::{Bytes, MAX_SCRIPT, Memory};
 use std::alloc::Global;
 
 /// Writes the text of an answer.
@@ -53,10 +55,29 @@ fn check_command<S: Source, K: Sink>(alloc: Global, source: &mut S, sink: &mut K
     }
 }
 
-/// Does what `run` asks for.
-#[tactic(auto, using(crate::proofs::Leaving::leaves, crate::proofs::Leaving::defines_long, crate::proofs::Leaving::defines_run))]
-fn run_command<S: Source, K: Sink>(alloc: Global, source: &mut S, sink: &mut K) -> Status
-    ensures output { Leaves (Some Command.Run) (S.left source.old) (K.written sink.old) (K.written sink.new) result }
+/// What a command that reads scripts answers to an input within its limit, and what it writes for it.
+fn script_answer(alloc: Global, command: Command, bytes: &[u8]) -> Result<(Status, Bytes), Memory>
+    requires scripts { ReadsScripts command }
+    requires short { length bytes.now ≤ limit }
+    ensures { IfOk result (λ x. Answers command bytes.now x.0 x.1) }
+{
+    match command {
+        Command::Run => run(alloc, bytes),
+        Command::Goals => shown(alloc, bytes),
+        Command::Check => unreachable!(),
+    }
+}
+
+/// Does what a command asks for that reads scripts.
+#[tactic(auto, using(crate::proofs::Leaving::leaves, crate::proofs::Leaving::defines_long, crate::proofs::Leaving::defines_script))]
+fn script_command<S: Source, K: Sink>(
+    alloc: Global,
+    command: Command,
+    source: &mut S,
+    sink: &mut K,
+) -> Status
+    requires { ReadsScripts command }
+    ensures output { Leaves (Some command) (S.left source.old) (K.written sink.old) (K.written sink.new) result }
     ensures end { result ≡ Status.Done → IsReadToEnd (S.left source.old) (S.left source.new) }
     ensures read { Faulted (result ≡ Status.ReadFault) (S.faults source.old) (S.faults source.new) }
     ensures write { Faulted (result ≡ Status.WriteFault) (K.faults sink.old) (K.faults sink.new) }
@@ -67,7 +88,7 @@ fn run_command<S: Source, K: Sink>(alloc: Global, source: &mut S, sink: &mut K) 
         Err(TakeFault::Long) => return say(sink, Status::TooLong, b"too long\n"),
         Err(TakeFault::Memory) => return Status::Memory,
     };
-    match run(alloc, bytes.as_slice()) {
+    match script_answer(alloc, command, bytes.as_slice()) {
         Ok((status, text)) => say(sink, status, text.as_slice()),
         Err(_) => Status::Memory,
     }
@@ -77,8 +98,8 @@ fn run_command<S: Source, K: Sink>(alloc: Global, source: &mut S, sink: &mut K) 
 /// and `sink` written. The answer is the status that the program ends with. Of devices that tell their bytes more is known:
 /// what was written then is the whole text of that status, for `check` and `Done` the lines of the derivation's predicates
 /// and statements and of their number, for `run` and `Done` a derivation of exactly the script's lemmas over exactly its
-/// predicates; and `Done` says that the input was read to its end and that each of its statements is true, for `check` those
-/// of the derivation, whoever wrote it, for `run` the script's lemmas. Where the words name no command nothing is read.
+/// predicates, for `goals` the goals of the script's last state and the line of what stopped it; and `Done` says that the input was read to its end and, but for `goals`, that each of its statements is true,
+/// for `check` those of the derivation, whoever wrote it, for `run` the script's lemmas. Where the words name no command nothing is read.
 /// After `WriteFault` and `Memory` a front of a text that answers the words and the input was written, or nothing, and after
 /// `ReadFault` nothing.
 pub fn top<S: Source, K: Sink>(
@@ -107,6 +128,7 @@ pub fn top<S: Source, K: Sink>(
             say(sink, Status::Usage, usage)
         }
         Some(Command::Check) => check_command(alloc, source, sink),
-        Some(Command::Run) => run_command(alloc, source, sink),
+        Some(Command::Run) => script_command(alloc, Command::Run, source, sink),
+        Some(Command::Goals) => script_command(alloc, Command::Goals, source, sink),
     }
 }

@@ -1,5 +1,5 @@
 use Rattle.std.proofs.Common.{subst, sym, ◌∙◌, Option}
-use Rattle.pm_run.specs.declared.script.Stop.{Stop}
+use Rattle.pm_run.specs.declared.stop.Stop.{Stop}
 use Rattle.pm_run.specs.Looping.{AtSpan}
 use Rattle.pm_run.proofs.Looped.{done_span}
 use Rattle.pm_run.proofs.script.do_read.Goals as goal

@@ -12,4 +12,4 @@ pub do_read-requires-clause-read : goal.do_read-requires-clause-read
 do_read-requires-clause-read c = ap (λ (ns : List (List ℕ)). read_sentence c.args.span.now.offset c.args.running.now.preds.list ns c.args.span.now.text) (sym c.in_ok-names.ensures) ∙ c.in_ok-read.ensures ∙ c.in-Ok.is
 
 pub returns : goal.returns
-returns c = unread_span c.args.running.now c.args.number c.args.span.now c.args.running.now c.in-Err.fault (ap (λ (ns : List (List ℕ)). read_sentence c.args.span.now.offset c.args.running.now.preds.list ns c.args.span.now.text) (sym c.in_ok-names.ensures) ∙ (c.in_ok-read.ensures ∙ c.in-Err.is))
+returns c = unread_span c.args.running.now c.args.number c.args.span.now c.in-Err.fault (ap (λ (ns : List (List ℕ)). read_sentence c.args.span.now.offset c.args.running.now.preds.list ns c.args.span.now.text) (sym c.in_ok-names.ensures) ∙ (c.in_ok-read.ensures ∙ c.in-Err.is))

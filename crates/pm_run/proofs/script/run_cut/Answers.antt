@@ -2,7 +2,7 @@ use Rattle.std.proofs.Common.{◌≡◌, subst, sym, Option, None}
 use Rattle.std.specs.Prelude.{ℕ, length}
 use Rattle.pm_cutter.specs.Spans.{end_from}
 use Rattle.pm_run.specs.declared.ran.Ran.{Ran}
-use Rattle.pm_run.specs.declared.script.Stop.{Stop}
+use Rattle.pm_run.specs.declared.stop.Stop.{Stop}
 use Rattle.pm_run.specs.Coming.{ComesTo}
 use Rattle.pm_run.specs.Looping.{AtSpans, Ends}
 use Rattle.pm_run.proofs.Doings.{on_ok}

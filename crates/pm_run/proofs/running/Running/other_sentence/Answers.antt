@@ -23,7 +23,7 @@ returns-in-Directive c = λ nothing.
     (λ d h. λ s k sayable. does_directive c.args.self.now c.any_directive.new.self c.in-Directive.directive d h s k) c.any_directive.ensures)
 
 pub returns-in-Abort : goal.returns-in-Abort
-returns-in-Abort c = λ nothing. λ s k sayable. does_nothing s c.args.sentence.now c.args.self.now c.args.self.now (not_built s c.args.sentence.now c.in-Abort.is)
+returns-in-Abort c = λ nothing. λ s k sayable. does_nothing s c.args.sentence.now c.args.self.now (not_built s c.args.sentence.now c.in-Abort.is)
 
 pub returns-in-Predicate : goal.returns-in-Predicate
 returns-in-Predicate c = λ nothing. absurd (states_either c.args.sentence.now c.in-Predicate.is nothing)
