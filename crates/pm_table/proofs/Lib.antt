@@ -9,3 +9,7 @@ pub mod Outcomes
 pub mod Counting
 pub mod Apart
 pub mod Deals
+pub mod Placing
+pub mod Holding
+pub mod Rests
+pub mod Hands

@@ -17,6 +17,7 @@ pub mod Linears
 pub mod Patterns
 pub mod Directives
 pub mod Stepping
+pub mod Hands
 pub mod Dealing
 pub mod Examples
 pub mod FramingLaws

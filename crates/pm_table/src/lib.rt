@@ -6,7 +6,7 @@ mod passage;
 mod place;
 mod promises;
 
-pub use laws::{premises_deal, splits_deal, steps_keep_names_apart, steps_stay_within_limits};
+pub use laws::{nothing_stays_in_hand, premises_deal, splits_deal, steps_keep_names_apart, steps_stay_within_limits};
 pub use passage::Passage;
 pub use place::Place;
 pub use promises::{apply_takes_least, box_is_rule, framing_shrinks};
