@@ -1,5 +1,5 @@
 -- Nodes and depths of lists of formulas.
-use Rattle.std.proofs.Common.{◌≡◌, ℕ, zero, suc, ◌+◌, ◌-◌, ◌<◌, ◌≤◌, max, List, [], ◌∷◌, ◌++◌, length, drop, get_or, map, refl, sym, ◌∙◌, ap, subst, arith}
+use Rattle.std.proofs.Common.{◌≡◌, ℕ, zero, suc, ◌+◌, ◌-◌, ◌<◌, ◌≤◌, max, List, [], ◌∷◌, ◌++◌, length, drop, get_or, refl, sym, ap, subst, arith}
 use Rattle.pm_logic.specs.declared.formula.Formula.{Formula}
 use Rattle.pm_logic.specs.Size.{nodes_of, depth_of}
 use Rattle.pm_table.specs.Limits.{all_nodes, greatest_depth}
@@ -28,6 +28,6 @@ module _ (fs : List Formula) (i : ℕ) (f : Formula) (some : 0 < i) (within : i 
   pub more_depth : greatest_depth (drop (i - 1) fs) ≡ max (depth_of f) (greatest_depth (drop i fs))
   more_depth = ap greatest_depth before
 
-pub none_left : (fs : List Formula) → drop (length fs) fs ≡ []
+pub none_left : {A : Type 0} (fs : List A) → drop (length fs) fs ≡ []
 none_left [] = refl
 none_left (f ∷ fs) = none_left fs

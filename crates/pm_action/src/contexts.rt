@@ -36,20 +36,18 @@ pub fn others(alloc: Global, work: &Work) -> Result<List<Held>, Memory>
     ensures { IfOk result (λ hs. hs ≡ all_but_last work.now.held) }
 {
     let held = work.held.as_slice();
+    let count = held.len() - 1;
     let mut out = List::new(alloc);
-    for h in &held[..held.len() - 1] {
-        out.push(copy_held(alloc, h)?)?;
+    let mut i = 0;
+    while i < count {
+        out.push(copy_held(alloc, &held[i])?)?;
+        i += 1;
     }
     Ok(out)
 }
 
 /// The goal with one more in hand.
-pub fn with_held(
-    goal: Goal,
-    held: List<Held>,
-    kind: Kind,
-    formula: Formula,
-) -> Result<Work, Memory>
+pub fn with_held(goal: Goal, held: List<Held>, kind: Kind, formula: Formula) -> Result<Work, Memory>
     ensures { IfOk result (λ w. w ≡ works.work_of goal (held ++ works.holding kind formula ∷ [])) }
 {
     let mut held = held;

@@ -3,11 +3,12 @@
 ghost use Rattle.std.specs.Prelude.{◌≡◌, ◌<◌, ◌^◌, IfOk, length};
 ghost use Rattle.pm_goal.specs.Left.{left_of_work};
 ghost use Rattle.pm_proof.specs.Trees.{Hole, entail, conclusion};
+ghost use Rattle.pm_table.specs.Limits.{resting};
 ghost use Rattle.pm_action.specs.Meanings.{meaning};
 ghost use Rattle.pm_action.specs.Acting.{MovesTo, StaysAs};
 
 use crate::finishing::finish_one;
-use pm_goal::{StepFault, Work, left_of_work};
+use pm_goal::{Goal, StepFault, Work, left_of, left_of_work};
 use pm_logic::{Memory, copy};
 use pm_proof::{Parts, Proof, hole};
 use pm_rules::Entail;
@@ -15,8 +16,20 @@ use pm_star::compose;
 use pm_table::Place;
 use std::alloc::Global;
 
-/// What the work means, as a hole.
-fn wanted(alloc: Global, work: &Work) -> Result<Proof, Memory>
+/// What the goal means, as a hole. The error is want of memory.
+#[tactic(auto, unfolding(pm_goal::specs::Left::star_onto))]
+pub fn wanted_of_goal(alloc: Global, goal: &Goal) -> Result<Proof, Memory>
+    requires { length goal.now.vars < 2 ^ 32 }
+    ensures { IfOk result (λ p. p ≡ Hole (meaning (resting goal.now))) }
+{
+    let vars = goal.vars.len() as u32;
+    let left = left_of(alloc, goal)?;
+    let right = copy(alloc, &goal.concl)?;
+    hole(alloc, Entail { vars, left, right })
+}
+
+/// What the work means, as a hole. The error is want of memory.
+pub fn wanted(alloc: Global, work: &Work) -> Result<Proof, Memory>
     requires { length work.now.goal.vars < 2 ^ 32 }
     ensures { IfOk result (λ p. p ≡ Hole (meaning work.now)) }
 {

@@ -189,7 +189,7 @@ premises_settle none _ = settles_none
 
 actions_stand : (row : Row) (actions : List Action) → Settles actions → (w : Work) → length w.held ≡ 0 → EachPlace (Hands 0) (run_actions row actions w)
 actions_stand row [] settles w e = tt
-actions_stand row (a ∷ as) settles w e = settles (current [] w ∷ []) ((refl, e), tt)
+actions_stand row (a ∷ more) settles w e = settles (current [] w ∷ []) ((refl, e), tt)
 
 intro_pattern_moves : (p : Pat) → is_inner p ≡ true → Moves (Hands 0) (Hands 0) (intro_pattern p)
 intro_pattern_moves p e ps h = after_moves (Stands 1 0) (Hands 0) (act (at_rest (intro_one p)) ps) (destruct p) (act_moves 0 1 0 (at_rest (intro_one p)) (rest_takes 1 0 (intro_one p) (Holding.intro_one_takes p)) ps h) (destruct_moves p e 0)

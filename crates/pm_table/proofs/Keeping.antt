@@ -1,9 +1,7 @@
 -- What each action keeps, steps keep.
-use Rattle.std.proofs.Common.{◌≡◌, ℕ, zero, suc, Bool, true, false, cond, List, [], ◌∷◌, ◌++◌, map, replicate, refl, sym, subst, Option, Some, None}
-use Rattle.pm_goal.specs.declared.goal.Goal.{Goal}
+use Rattle.std.proofs.Common.{ℕ, Bool, true, false, List, [], ◌∷◌, ◌++◌, map}
 use Rattle.pm_goal.specs.declared.work.Held.{Held}
 use Rattle.pm_goal.specs.declared.work.Work.{Work}
-use Rattle.pm_goal.specs.declared.refusal.Row.{Row}
 use Rattle.pm_table.specs.Works.{where_none, at_rest}
 use Rattle.pm_table.specs.Outcomes.{Outcome, gives, refused, Action, one}
 use Rattle.pm_table.specs.declared.place.Place.{Place}
@@ -126,3 +124,8 @@ rest_in P (x ∷ hs) o q h g = g
 
 pub rest_good : (P : Work → Type 0) (action : Action) → Good P action → Good P one → Good P (at_rest action)
 rest_good P action good stays w h = rest_in P w.held (action w) (one w) (good w h) (stays w h)
+
+-- the same of what it gives, whatever the limits
+pub rests_in : (P : Work → Type 0) (hs : List Held) (o q : Outcome) → InOutcome P o → InOutcome P q → InOutcome P (where_none hs o q)
+rests_in P [] o q h g = h
+rests_in P (x ∷ hs) o q h g = g

@@ -13,3 +13,14 @@ pub mod Placing
 pub mod Holding
 pub mod Rests
 pub mod Hands
+pub mod Scopes
+pub mod Scoping
+pub mod ScopedHands
+pub mod ScopedGoals
+pub mod ScopedFrames
+pub mod ScopedTerms
+pub mod ScopedRules
+pub mod StaysScoped
+pub mod PartsOfClasses
+pub mod PartsGiven
+pub mod ScopedActions

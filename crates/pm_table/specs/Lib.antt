@@ -16,6 +16,8 @@ pub mod Terms
 pub mod Linears
 pub mod Patterns
 pub mod Directives
+pub mod Scopes
+pub mod Parts
 pub mod Stepping
 pub mod Hands
 pub mod Dealing

@@ -1,5 +1,5 @@
 -- Laws of steps.
-use Rattle.std.specs.Prelude.{◌≡◌, ℕ, suc, ◌≤◌, cond, List, [], ◌∷◌, ◌++◌, map, None}
+use Rattle.std.specs.Prelude.{◌≡◌, ℕ, suc, ◌≤◌, cond, List, [], ◌∷◌, ◌++◌, length, map, None}
 use Rattle.std.specs.Str.{bytes_eq}
 use Rattle.pm_logic.specs.declared.formula.Preds.{Preds}
 use Rattle.pm_goal.specs.declared.goal.Goal.{Goal}
@@ -8,6 +8,7 @@ use Rattle.pm_script.specs.declared.directive.Directive.{Directive}
 use Rattle.pm_table.specs.Limits.{resting, limit_row}
 use Rattle.pm_table.specs.Works.{Named}
 use Rattle.pm_table.specs.Directives.{Stepped, goals, refused, step}
+use Rattle.pm_table.specs.Scopes.{IsGoalScoped, AreBodiesScoped, AreLemmasScoped, IsDirectiveScoped}
 
 abbrev pub Each : {A : Type 0} → (A → Type 0) → List A → Type 0
 Each P [] = Unit {0}
@@ -44,3 +45,10 @@ NamesDiffer goal = (name : Named) → times name (names_of goal) ≤ 1
 abbrev pub StepsKeepNamesApart : Type 0
 StepsKeepNamesApart = (preds : Preds) (lemmas : Lemmas) (goal : Goal) (directive : Directive)
     → NamesDiffer goal → EachGoal NamesDiffer (step preds lemmas goal directive)
+
+-- A scoped goal goes to scoped goals, where the predicates' bodies and the lemmas are scoped, and what the directive gives is
+-- scoped in the goal's variables.
+abbrev pub StepsStayScoped : Type 0
+StepsStayScoped = (preds : Preds) (lemmas : Lemmas) (goal : Goal) (directive : Directive)
+    → AreBodiesScoped preds → AreLemmasScoped preds lemmas → IsGoalScoped preds goal → IsDirectiveScoped preds (length goal.vars) directive
+    → EachGoal (IsGoalScoped preds) (step preds lemmas goal directive)
