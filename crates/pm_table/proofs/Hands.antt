@@ -52,28 +52,28 @@ use Rattle.pm_table.proofs.Holding.{count, count_no_more, Stands, stands_behind,
 use Rattle.pm_table.proofs.Rests
 
 -- no pattern is to come, and so many hypotheses are in hand
-abbrev Hands : ℕ → Place → Type 0
-Hands k = Stands 0 k
+abbrev InHand : ℕ → Place → Type 0
+InHand k = Stands 0 k
 
 -- ---- actions on places
 
-alone_stands : (a n k : ℕ) (whole : Work → Run) → ((w : Work) → length w.held ≡ a → EachPlace (Stands n k) (whole w)) → (p : Place) → Hands a p → EachPlace (Stands n k) (in_place whole p)
+alone_stands : (a n k : ℕ) (whole : Work → Run) → ((w : Work) → length w.held ≡ a → EachPlace (Stands n k) (whole w)) → (p : Place) → InHand a p → EachPlace (Stands n k) (in_place whole p)
 alone_stands a n k whole stands (finished goal) h = (tt, tt)
 alone_stands a n k whole stands (current [] w) h =
     let e : length w.held ≡ a = let i = h.1 in omega (arith, i) in
     keeping_moves (Stands n k) (Stands n k) [] (λ p i. stands_behind n k n k [] p (omega arith) (omega arith) i) (whole w) (stands w e)
 alone_stands a n k whole stands (current (t ∷ turns) w) h = absurd (let i = h.0 in omega (arith, i))
 
-alone_moves : (a n k : ℕ) (whole : Work → Run) → ((w : Work) → length w.held ≡ a → EachPlace (Stands n k) (whole w)) → Moves (Hands a) (Stands n k) (each_alone whole)
-alone_moves a n k whole stands ps h = on_all_moves (Hands a) (Stands n k) (in_place whole) (alone_stands a n k whole stands) ps h
+alone_moves : (a n k : ℕ) (whole : Work → Run) → ((w : Work) → length w.held ≡ a → EachPlace (Stands n k) (whole w)) → Moves (InHand a) (Stands n k) (each_alone whole)
+alone_moves a n k whole stands ps h = on_all_moves (InHand a) (Stands n k) (in_place whole) (alone_stands a n k whole stands) ps h
 
-pub act_with_moves : (a n k handed : ℕ) (action : Action) → Takes a n k action → Moves (Hands a) (Stands n k) (act_with handed action)
+pub act_with_moves : (a n k handed : ℕ) (action : Action) → Takes a n k action → Moves (InHand a) (Stands n k) (act_with handed action)
 act_with_moves a n k handed action takes ps h = alone_moves a n k (once handed action) (λ w e. once_gives (Stands n k) handed action w (takes w e)) ps h
 
-act_moves : (a n k : ℕ) (action : Action) → Takes a n k action → Moves (Hands a) (Stands n k) (act action)
+act_moves : (a n k : ℕ) (action : Action) → Takes a n k action → Moves (InHand a) (Stands n k) (act action)
 act_moves a n k action takes ps h = act_with_moves a n k 0 action takes ps h
 
-goal_moves : (handed k : ℕ) (action : Goal → Outcome) → ((goal : Goal) → Gives (Hands k) (action goal)) → Moves (Hands 0) (Hands k) (act_with handed (on_goal action))
+goal_moves : (handed k : ℕ) (action : Goal → Outcome) → ((goal : Goal) → Gives (InHand k) (action goal)) → Moves (InHand 0) (InHand k) (act_with handed (on_goal action))
 goal_moves handed k action gives ps h = act_with_moves 0 0 k handed (on_goal action) (goal_takes k action gives) ps h
 
 -- the turn of a pattern is over, and in its place come so many parts of it
@@ -131,47 +131,47 @@ destruct_moves pat.Alls e n = absurd cc
 destruct_moves pat.AllsWands e n = absurd cc
 destruct_moves (pat.Clear sels) e n = absurd cc
 
-pub destruct_all_moves : (p : Pat) → is_inner p ≡ true → Moves (Hands 1) (Hands 0) (destruct_all p)
-destruct_all_moves p e ps h = destruct_moves p e 0 (map with_turn ps) (each_map (Hands 1) (Stands 1 0) with_turn (stands_before 0 0) ps h)
+pub destruct_all_moves : (p : Pat) → is_inner p ≡ true → Moves (InHand 1) (InHand 0) (destruct_all p)
+destruct_all_moves p e ps h = destruct_moves p e 0 (map with_turn ps) (each_map (InHand 1) (Stands 1 0) with_turn (stands_before 0 0) ps h)
 
 -- ---- lists of actions on one work
 
-alone_in_order : {A : Type 0} (T : A → Type 0) (action : A → Action) → ((x : A) → T x → Takes 0 0 0 (action x)) → (xs : List A) → Each T xs → (w : Work) → length w.held ≡ 0 → EachPlace (Hands 0) (for_each action xs w)
-alone_in_order T action takes xs given w e = in_order_moves (Hands 0) T (λ x. act (action x)) (λ x i. act_moves 0 0 0 (action x) (takes x i)) xs given (current [] w ∷ []) ((refl, e), tt)
+alone_in_order : {A : Type 0} (T : A → Type 0) (action : A → Action) → ((x : A) → T x → Takes 0 0 0 (action x)) → (xs : List A) → Each T xs → (w : Work) → length w.held ≡ 0 → EachPlace (InHand 0) (for_each action xs w)
+alone_in_order T action takes xs given w e = in_order_moves (InHand 0) T (λ x. act (action x)) (λ x i. act_moves 0 0 0 (action x) (takes x i)) xs given (current [] w ∷ []) ((refl, e), tt)
 
 -- an action for each of the names that a work has when its turn comes
-group_moves : (action : Named → Action) (names : Work → List Named) → ((x : Named) → Takes 0 0 0 (action x)) → Moves (Hands 0) (Hands 0) (each_alone (λ w. for_each action (names w) w))
+group_moves : (action : Named → Action) (names : Work → List Named) → ((x : Named) → Takes 0 0 0 (action x)) → Moves (InHand 0) (InHand 0) (each_alone (λ w. for_each action (names w) w))
 group_moves action names takes = alone_moves 0 0 0 (λ w. for_each action (names w) w) (λ w e. alone_in_order (λ x. Unit {0}) action (λ x i. takes x) (names w) (anything (names w)) w e)
 
-goal_group_moves : (action : Named → Goal → Outcome) (names : Work → List Named) → ((x : Named) (g : Goal) → Gives (Hands 0) (action x g)) → Moves (Hands 0) (Hands 0) (each_alone (λ w. for_each (λ x. on_goal (action x)) (names w) w))
+goal_group_moves : (action : Named → Goal → Outcome) (names : Work → List Named) → ((x : Named) (g : Goal) → Gives (InHand 0) (action x g)) → Moves (InHand 0) (InHand 0) (each_alone (λ w. for_each (λ x. on_goal (action x)) (names w) w))
 goal_group_moves action names gives = group_moves (λ x. on_goal (action x)) names (λ x. goal_takes 0 (action x) (gives x))
 
-clear_selected_moves : (s : Sel) → Moves (Hands 0) (Hands 0) (clear_selected s)
+clear_selected_moves : (s : Sel) → Moves (InHand 0) (InHand 0) (clear_selected s)
 clear_selected_moves (sel.Name h) = goal_moves 0 0 (clear h) (Rests.clear_rests h)
 clear_selected_moves sel.Pures = goal_group_moves clear (λ w. fact_names w.goal) Rests.clear_rests
 clear_selected_moves sel.Ints = goal_group_moves clear (λ w. int_names w.goal) Rests.clear_rests
 clear_selected_moves sel.Spats = goal_group_moves clear (λ w. spat_names w.goal) Rests.clear_rests
 
-clear_all_moves : (sels : List Sel) → Moves (Hands 0) (Hands 0) (clear_all_selected sels)
-clear_all_moves sels = in_order_moves (Hands 0) (λ s. Unit {0}) clear_selected (λ s i. clear_selected_moves s) sels (anything sels)
+clear_all_moves : (sels : List Sel) → Moves (InHand 0) (InHand 0) (clear_all_selected sels)
+clear_all_moves sels = in_order_moves (InHand 0) (λ s. Unit {0}) clear_selected (λ s i. clear_selected_moves s) sels (anything sels)
 
 -- ---- introductions
 
 -- a list of actions that leaves nothing in hand
 abbrev Settles : List Action → Type 0
-Settles actions = Moves (Hands 0) (Hands 0) (in_order (λ a. act a) actions)
+Settles actions = Moves (InHand 0) (InHand 0) (in_order (λ a. act a) actions)
 
 settles_none : Settles []
 settles_none ps h = h
 
 universal_settles : (actions : List Action) → Settles actions → Settles (at_rest intro_all_fresh ∷ actions)
-universal_settles actions settles ps h = after_moves (Hands 0) (Hands 0) (act (at_rest intro_all_fresh) ps) (in_order (λ a. act a) actions) (act_moves 0 0 0 (at_rest intro_all_fresh) (rest_takes 0 0 intro_all_fresh Holding.intro_all_takes) ps h) settles
+universal_settles actions settles ps h = after_moves (InHand 0) (InHand 0) (act (at_rest intro_all_fresh) ps) (in_order (λ a. act a) actions) (act_moves 0 0 0 (at_rest intro_all_fresh) (rest_takes 0 0 intro_all_fresh Holding.intro_all_takes) ps h) settles
 
 -- a left side is held, then named
 left_side_settles : (actions : List Action) → Settles actions → Settles (left_side actions)
 left_side_settles actions settles ps h =
-    after_moves (Hands 1) (Hands 0) (act (at_rest intro_hyp) ps) (in_order (λ a. act a) (name_fresh ∷ actions)) (act_moves 0 0 1 (at_rest intro_hyp) (rest_takes 0 1 intro_hyp Holding.intro_hyp_takes) ps h)
-    (λ qs i. after_moves (Hands 0) (Hands 0) (act name_fresh qs) (in_order (λ a. act a) actions) (act_moves 1 0 0 name_fresh (Holding.name_fresh_deals 0) qs i) settles)
+    after_moves (InHand 1) (InHand 0) (act (at_rest intro_hyp) ps) (in_order (λ a. act a) (name_fresh ∷ actions)) (act_moves 0 0 1 (at_rest intro_hyp) (rest_takes 0 1 intro_hyp Holding.intro_hyp_takes) ps h)
+    (λ qs i. after_moves (InHand 0) (InHand 0) (act name_fresh qs) (in_order (λ a. act a) actions) (act_moves 1 0 0 name_fresh (Holding.name_fresh_deals 0) qs i) settles)
 
 choice_settles : (b : Bool) (actions : List Action) → Settles actions → Settles (cond b actions [])
 choice_settles true actions settles = settles
@@ -187,14 +187,14 @@ premises_settle none (Wand a b) = left_side_settles (premises false b) (premises
 premises_settle none (Imp a b) = choice_settles (none || is_persistent a) (left_side (premises false b)) (left_side_settles (premises false b) (premises_settle false b))
 premises_settle none _ = settles_none
 
-actions_stand : (row : Row) (actions : List Action) → Settles actions → (w : Work) → length w.held ≡ 0 → EachPlace (Hands 0) (run_actions row actions w)
+actions_stand : (row : Row) (actions : List Action) → Settles actions → (w : Work) → length w.held ≡ 0 → EachPlace (InHand 0) (run_actions row actions w)
 actions_stand row [] settles w e = tt
 actions_stand row (a ∷ more) settles w e = settles (current [] w ∷ []) ((refl, e), tt)
 
-intro_pattern_moves : (p : Pat) → is_inner p ≡ true → Moves (Hands 0) (Hands 0) (intro_pattern p)
-intro_pattern_moves p e ps h = after_moves (Stands 1 0) (Hands 0) (act (at_rest (intro_one p)) ps) (destruct p) (act_moves 0 1 0 (at_rest (intro_one p)) (rest_takes 1 0 (intro_one p) (Holding.intro_one_takes p)) ps h) (destruct_moves p e 0)
+intro_pattern_moves : (p : Pat) → is_inner p ≡ true → Moves (InHand 0) (InHand 0) (intro_pattern p)
+intro_pattern_moves p e ps h = after_moves (Stands 1 0) (InHand 0) (act (at_rest (intro_one p)) ps) (destruct p) (act_moves 0 1 0 (at_rest (intro_one p)) (rest_takes 1 0 (intro_one p) (Holding.intro_one_takes p)) ps h) (destruct_moves p e 0)
 
-pub intro_moves : (p : Pat) → is_item p ≡ true → Moves (Hands 0) (Hands 0) (intro p)
+pub intro_moves : (p : Pat) → is_item p ≡ true → Moves (InHand 0) (InHand 0) (intro p)
 unfolding intro is_item
 intro_moves pat.ModIntro e = goal_moves 0 0 head_intro Rests.head_intro_rests
 intro_moves pat.Done e = goal_moves 0 0 try_done Rests.try_done_rests
@@ -216,68 +216,68 @@ intro_moves (pair.Elim p) e = intro_pattern_moves (pair.Elim p) e
 intro_moves pat.Rewrite e = intro_pattern_moves pat.Rewrite e
 intro_moves pat.RewriteBack e = intro_pattern_moves pat.RewriteBack e
 
-intro_each_moves : (pats : List Pat) → list_all is_item pats ≡ true → Moves (Hands 0) (Hands 0) (intro_each pats)
+intro_each_moves : (pats : List Pat) → list_all is_item pats ≡ true → Moves (InHand 0) (InHand 0) (intro_each pats)
 intro_each_moves [] e ps h = h
-intro_each_moves (p ∷ pats) e ps h = let b = both_true (is_item p) (list_all is_item pats) e in after_moves (Hands 0) (Hands 0) (intro p ps) (intro_each pats) (intro_moves p b.0 ps h) (intro_each_moves pats b.1)
+intro_each_moves (p ∷ pats) e ps h = let b = both_true (is_item p) (list_all is_item pats) e in after_moves (InHand 0) (InHand 0) (intro p ps) (intro_each pats) (intro_moves p b.0 ps h) (intro_each_moves pats b.1)
 
 -- ---- proof terms and selections
 
 module _ (lemmas : Lemmas) where
-  head_moves : (taken : Bool) (h : Head) → Moves (Hands 0) (Hands 1) (head_run lemmas taken h)
+  head_moves : (taken : Bool) (h : Head) → Moves (InHand 0) (InHand 1) (head_run lemmas taken h)
   head_moves true (head.Hyp h) = act_moves 0 0 1 (at_rest (take h)) (rest_takes 0 1 (take h) (Holding.take_takes h))
   head_moves false (head.Hyp h) = act_moves 0 0 1 (at_rest (lend h)) (rest_takes 0 1 (lend h) (Holding.lend_takes h))
   head_moves true (head.Lemma n) = act_with_moves 0 0 1 (lemma_nodes (lemma_named n lemmas.list)) (at_rest (lemma lemmas n)) (rest_takes 0 1 (lemma lemmas n) (Holding.lemma_takes lemmas n))
   head_moves false (head.Lemma n) = act_with_moves 0 0 1 (lemma_nodes (lemma_named n lemmas.list)) (at_rest (lemma lemmas n)) (rest_takes 0 1 (lemma lemmas n) (Holding.lemma_takes lemmas n))
 
-  terms_move : (ts : List Term) → Moves (Hands 1) (Hands 1) (in_order (λ t. act_with (term_nodes t) (with_term t)) ts)
-  terms_move ts = in_order_moves (Hands 1) (λ t. Unit {0}) (λ t. act_with (term_nodes t) (with_term t)) (λ t i. act_with_moves 1 0 1 (term_nodes t) (with_term t) (Holding.with_term_takes t)) ts (anything ts)
+  terms_move : (ts : List Term) → Moves (InHand 1) (InHand 1) (in_order (λ t. act_with (term_nodes t) (with_term t)) ts)
+  terms_move ts = in_order_moves (InHand 1) (λ t. Unit {0}) (λ t. act_with (term_nodes t) (with_term t)) (λ t i. act_with_moves 1 0 1 (term_nodes t) (with_term t) (Holding.with_term_takes t)) ts (anything ts)
 
-  spats_move : (ss : List Spat) → Moves (Hands 1) (Hands 1) (in_order (λ s. act (with_spat s)) ss)
-  spats_move ss = in_order_moves (Hands 1) (λ s. Unit {0}) (λ s. act (with_spat s)) (λ s i. act_moves 1 0 1 (with_spat s) (Holding.with_spat_takes s)) ss (anything ss)
+  spats_move : (ss : List Spat) → Moves (InHand 1) (InHand 1) (in_order (λ s. act (with_spat s)) ss)
+  spats_move ss = in_order_moves (InHand 1) (λ s. Unit {0}) (λ s. act (with_spat s)) (λ s i. act_moves 1 0 1 (with_spat s) (Holding.with_spat_takes s)) ss (anything ss)
 
   -- the head is held, and then what it becomes
-  pub term_moves : (taken : Bool) (t : ProofTerm) → Moves (Hands 0) (Hands 1) (term_run lemmas taken t)
+  pub term_moves : (taken : Bool) (t : ProofTerm) → Moves (InHand 0) (InHand 1) (term_run lemmas taken t)
   term_moves taken t ps h =
-      after_moves (Hands 1) (Hands 1) (head_run lemmas taken t.head ps) (λ qs. after (in_order (λ x. act_with (term_nodes x) (with_term x)) t.terms qs) (in_order (λ s. act (with_spat s)) t.spats)) (head_moves taken t.head ps h)
-      (λ qs i. after_moves (Hands 1) (Hands 1) (in_order (λ x. act_with (term_nodes x) (with_term x)) t.terms qs) (in_order (λ s. act (with_spat s)) t.spats) (terms_move t.terms qs i) (spats_move t.spats))
+      after_moves (InHand 1) (InHand 1) (head_run lemmas taken t.head ps) (λ qs. after (in_order (λ x. act_with (term_nodes x) (with_term x)) t.terms qs) (in_order (λ s. act (with_spat s)) t.spats)) (head_moves taken t.head ps h)
+      (λ qs i. after_moves (InHand 1) (InHand 1) (in_order (λ x. act_with (term_nodes x) (with_term x)) t.terms qs) (in_order (λ s. act (with_spat s)) t.spats) (terms_move t.terms qs i) (spats_move t.spats))
 
-frame_selected_moves : (s : Sel) → Moves (Hands 0) (Hands 0) (frame_selected s)
+frame_selected_moves : (s : Sel) → Moves (InHand 0) (InHand 0) (frame_selected s)
 frame_selected_moves (sel.Name h) = act_moves 0 0 0 (frame_named h) (Holding.frame_named_takes h)
 frame_selected_moves sel.Pures = group_moves frame_member (λ w. fact_names w.goal) Holding.frame_member_takes
 frame_selected_moves sel.Ints = group_moves frame_member (λ w. int_names w.goal) Holding.frame_member_takes
 frame_selected_moves sel.Spats = group_moves frame_member (λ w. spat_names w.goal) Holding.frame_member_takes
 
-revert_selected_moves : (s : Sel) → Moves (Hands 0) (Hands 0) (revert_selected s)
+revert_selected_moves : (s : Sel) → Moves (InHand 0) (InHand 0) (revert_selected s)
 revert_selected_moves (sel.Name h) = goal_moves 0 0 (revert h) (Rests.revert_rests h)
 revert_selected_moves sel.Pures = goal_group_moves revert (λ w. reverse (fact_names w.goal)) Rests.revert_rests
 revert_selected_moves sel.Ints = goal_group_moves revert (λ w. reverse (int_names w.goal)) Rests.revert_rests
 revert_selected_moves sel.Spats = goal_group_moves revert (λ w. reverse (spat_names w.goal)) Rests.revert_rests
 
-revert_all_moves : (xs : List Named) (sels : List Sel) → Moves (Hands 0) (Hands 0) (revert_all xs sels)
-revert_all_moves xs sels ps h = after_moves (Hands 0) (Hands 0) (in_order revert_selected (reverse sels) ps) (in_order (λ x. act (on_goal (revert_var x))) (reverse xs))
-    (in_order_moves (Hands 0) (λ s. Unit {0}) revert_selected (λ s i. revert_selected_moves s) (reverse sels) (anything (reverse sels)) ps h)
-    (in_order_moves (Hands 0) (λ x. Unit {0}) (λ x. act (on_goal (revert_var x))) (λ x i. goal_moves 0 0 (revert_var x) (Rests.revert_var_rests x)) (reverse xs) (anything (reverse xs)))
+revert_all_moves : (xs : List Named) (sels : List Sel) → Moves (InHand 0) (InHand 0) (revert_all xs sels)
+revert_all_moves xs sels ps h = after_moves (InHand 0) (InHand 0) (in_order revert_selected (reverse sels) ps) (in_order (λ x. act (on_goal (revert_var x))) (reverse xs))
+    (in_order_moves (InHand 0) (λ s. Unit {0}) revert_selected (λ s i. revert_selected_moves s) (reverse sels) (anything (reverse sels)) ps h)
+    (in_order_moves (InHand 0) (λ x. Unit {0}) (λ x. act (on_goal (revert_var x))) (λ x i. goal_moves 0 0 (revert_var x) (Rests.revert_var_rests x)) (reverse xs) (anything (reverse xs)))
 
 -- ---- directives
 
-then_destruct : (r : Run) (p : Pat) → is_inner p ≡ true → EachPlace (Hands 1) r → EachPlace (Hands 0) (after r (destruct_all p))
-then_destruct r p e h = after_moves (Hands 1) (Hands 0) r (destruct_all p) h (destruct_all_moves p e)
+then_destruct : (r : Run) (p : Pat) → is_inner p ≡ true → EachPlace (InHand 1) r → EachPlace (InHand 0) (after r (destruct_all p))
+then_destruct r p e h = after_moves (InHand 1) (InHand 0) r (destruct_all p) h (destruct_all_moves p e)
 
 module _ (preds : Preds) (lemmas : Lemmas) where
-  run_moves : (directive : Directive) → is_well_placed directive ≡ true → Moves (Hands 0) (Hands 0) (run preds lemmas directive)
+  run_moves : (directive : Directive) → is_well_placed directive ≡ true → Moves (InHand 0) (InHand 0) (run preds lemmas directive)
   unfolding is_well_placed is_inner
   run_moves (d.Intros pats) e ps h = intro_each_moves pats e ps h
   run_moves (d.Destruct t p) e ps h = then_destruct (term_run lemmas (is_bare t) t ps) p e (term_moves lemmas (is_bare t) t ps h)
   run_moves (d.PoseProof t p) e ps h = then_destruct (term_run lemmas false t ps) p e (term_moves lemmas false t ps h)
-  run_moves (d.Specialize t) e ps h = after_moves (Hands 1) (Hands 0) (term_run lemmas true t ps) (act (name_held (head_name t.head))) (term_moves lemmas true t ps h) (act_moves 1 0 0 (name_held (head_name t.head)) (Holding.name_held_deals (head_name t.head) 0))
-  run_moves (d.Apply t) e ps h = after_moves (Hands 1) (Hands 0) (term_run lemmas false t ps) (act apply) (term_moves lemmas false t ps h) (act_moves 1 0 0 apply Holding.apply_takes)
+  run_moves (d.Specialize t) e ps h = after_moves (InHand 1) (InHand 0) (term_run lemmas true t ps) (act (name_held (head_name t.head))) (term_moves lemmas true t ps h) (act_moves 1 0 0 (name_held (head_name t.head)) (Holding.name_held_deals (head_name t.head) 0))
+  run_moves (d.Apply t) e ps h = after_moves (InHand 1) (InHand 0) (term_run lemmas false t ps) (act apply) (term_moves lemmas false t ps h) (act_moves 1 0 0 apply Holding.apply_takes)
   run_moves (d.Assert f s p) e ps h = then_destruct (act_with (nodes_of f) (at_rest (assert f s)) ps) p e (act_with_moves 0 0 1 (nodes_of f) (at_rest (assert f s)) (rest_takes 0 1 (assert f s) (Holding.assert_takes f s)) ps h)
   run_moves d.Split e ps h = goal_moves 0 0 split Rests.split_rests ps h
   run_moves (d.SplitL list) e ps h = goal_moves 0 0 (split_at true list) (Rests.split_at_rests true list) ps h
   run_moves (d.SplitR list) e ps h = goal_moves 0 0 (split_at false list) (Rests.split_at_rests false list) ps h
   run_moves d.Left e ps h = goal_moves 0 0 (side true) (Rests.side_rests true) ps h
   run_moves d.Right e ps h = goal_moves 0 0 (side false) (Rests.side_rests false) ps h
-  run_moves (d.Exists ts) e ps h = in_order_moves (Hands 0) (λ t. Unit {0}) (λ t. act_with (term_nodes t) (on_goal (exists t))) (λ t i. goal_moves (term_nodes t) 0 (exists t) (Rests.exists_rests t)) ts (anything ts) ps h
+  run_moves (d.Exists ts) e ps h = in_order_moves (InHand 0) (λ t. Unit {0}) (λ t. act_with (term_nodes t) (on_goal (exists t))) (λ t i. goal_moves (term_nodes t) 0 (exists t) (Rests.exists_rests t)) ts (anything ts) ps h
   run_moves (d.Exact x) e ps h = goal_moves 0 0 (exact x) (Rests.exact_rests x) ps h
   run_moves d.Assumption e ps h = goal_moves 0 0 assumption Rests.assumption_rests ps h
   run_moves d.ExFalso e ps h = goal_moves 0 0 exfalso Rests.exfalso_rests ps h
@@ -285,7 +285,7 @@ module _ (preds : Preds) (lemmas : Lemmas) where
   run_moves (d.Clear sels) e ps h = clear_all_moves sels ps h
   run_moves (d.Rename x y) e ps h = goal_moves 0 0 (rename x y) (Rests.rename_rests x y) ps h
   run_moves (d.Revert xs sels) e ps h = revert_all_moves xs sels ps h
-  run_moves (d.Frame sels) e ps h = in_order_moves (Hands 0) (λ s. Unit {0}) frame_selected (λ s i. frame_selected_moves s) (sels_or_spats sels) (anything (sels_or_spats sels)) ps h
+  run_moves (d.Frame sels) e ps h = in_order_moves (InHand 0) (λ s. Unit {0}) frame_selected (λ s i. frame_selected_moves s) (sels_or_spats sels) (anything (sels_or_spats sels)) ps h
   run_moves d.ModIntro e ps h = goal_moves 0 0 head_intro Rests.head_intro_rests ps h
   run_moves d.Next e ps h = goal_moves 0 0 next Rests.next_rests ps h
   run_moves (d.Mod t p) e ps h = then_destruct (term_run lemmas (is_bare t) t ps) (pair.Elim p) e (term_moves lemmas (is_bare t) t ps h)

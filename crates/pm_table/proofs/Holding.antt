@@ -1,5 +1,5 @@
 -- How many hypotheses are in hand after each action, and how many patterns are to come.
-use Rattle.std.proofs.Common.{◌≡◌, ℕ, zero, suc, ◌+◌, Bool, true, false, not, find, flat_map, ◌||◌, ◌==◌, length, length-append, List, [], ◌∷◌, ◌++◌, map, replicate, refl, arith, Option, Some, None, is_some, option_and_then}
+use Rattle.std.proofs.Common.{◌≡◌, ℕ, zero, suc, ◌+◌, Bool, true, false, not, find, flat_map, ◌||◌, ◌==◌, length, length-append, List, [], ◌∷◌, ◌++◌, map, replicate, refl, ap, subst, arith, Option, Some, None, is_some, option_and_then}
 use Rattle.std.proofs.lemmas.List.{length-map, length-replicate}
 use Rattle.std.specs.List.{list_all}
 use Rattle.pm_logic.specs.declared.formula.Term.{Term}
@@ -117,7 +117,7 @@ OthersOf m (Some hand) = length hand.others ≡ m
 
 behind_others : (h : Held) (m : ℕ) (o : Option Hand) → OthersOf m o → OthersOf (suc m) (hand_or h o)
 behind_others h m None e = absurd e
-behind_others h m (Some hand) e = omega (arith, e)
+behind_others h m (Some hand) e = ap suc e
 
 hand_others : (h : Held) (hs : List Held) → OthersOf (length hs) (hand_of (h ∷ hs))
 hand_others h [] = refl
@@ -125,7 +125,7 @@ hand_others h (g ∷ hs) = behind_others h (length hs) (hand_of (g ∷ hs)) (han
 
 others_of : (m : ℕ) (hs : List Held) → length hs ≡ suc m → OthersOf m (hand_of hs)
 others_of m [] e = absurd (omega (arith, e))
-others_of m (h ∷ hs) e = let same : length hs ≡ m = omega (arith, e) in rw same at (hand_others h hs)
+others_of m (h ∷ hs) e = let same : length hs ≡ m = omega (arith, e) in subst (λ n. OthersOf n (hand_of (h ∷ hs))) same (hand_others h hs)
 
 acting_stands : (P : Place → Type 0) (w : Work) (act : Hand → Outcome) (m : ℕ) (o : Option Hand) → OthersOf m o → ((hand : Hand) → length hand.others ≡ m → Gives P (act hand)) → Gives P (acting_on w act o)
 acting_stands P w act m None e h = absurd e
