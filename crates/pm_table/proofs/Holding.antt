@@ -1,6 +1,5 @@
 -- How many hypotheses are in hand after each action, and how many patterns are to come.
 use Rattle.std.proofs.Common.{◌≡◌, ℕ, zero, suc, ◌+◌, Bool, true, false, not, find, flat_map, ◌||◌, ◌==◌, length, length-append, List, [], ◌∷◌, ◌++◌, map, replicate, refl, ap, subst, arith, Option, Some, None, is_some, option_and_then}
-use Rattle.std.proofs.lemmas.List.{length-map, length-replicate}
 use Rattle.std.specs.List.{list_all}
 use Rattle.pm_logic.specs.declared.formula.Term.{Term}
 use Rattle.pm_logic.specs.declared.formula.Pure as P
@@ -174,9 +173,13 @@ drop_held_deals m w e = last_stands (Stands 0 (0 + m)) w _ m e (λ hand i. let l
 last_in_hand : (hand : Hand) (x : Held) (m c k : ℕ) → length hand.others ≡ m → c + k ≡ suc m → length (hand.others ++ (x ∷ [])) ≡ c + k
 last_in_hand hand x m c k e f = let l = one_more hand.others x m e in omega (arith, l, f)
 
+each_length : (change : Formula → Formula) (hs : List Held) → length (each_held change hs) ≡ length hs
+each_length change [] = refl
+each_length change (h ∷ hs) = ap suc (each_length change hs)
+
 body_stands : (w : Work) (hand : Hand) (x : Named) (b : Formula) (m : ℕ) → length hand.others ≡ m → Gives (Stands 2 (0 + m)) (body_held w hand x b)
 body_stands w hand x b m e =
-    let same = length-map (λ (h : Held). record { kind = h.kind; formula = shift_of h.formula }) hand.others in
+    let same = each_length shift_of hand.others in
     let l = one_more (each_held shift_of hand.others) (holding hand.last.kind b) (length (each_held shift_of hand.others)) refl in
     require_gives (Stands 2 (0 + m)) (fits w.goal x) _ _ _ ((refl, omega (arith, e, same, l)), tt)
 
@@ -229,7 +232,7 @@ elim_deals = opening_deals elim_update (λ m w e. last_stands (Stands 0 (1 + m))
 
 pub subst_deals : (back : Bool) → Deals 0 0 (subst_held back)
 subst_deals back m w e = last_stands (Stands 0 (0 + m)) w _ m e (λ hand i. require_entry_gives (Stands 0 (0 + m)) (option_and_then (equation_of back) (into_pure hand.last.formula)) _ _ (λ q.
-    let same = length-map (λ (h : Held). record { kind = h.kind; formula = rewritten q h.formula }) hand.others in ((refl, omega (arith, i, same)), tt)))
+    let same = each_length (rewritten q) hand.others in ((refl, omega (arith, i, same)), tt)))
 
 concluding_stands : (rest : Formula) (w : Work) (m : ℕ) → length w.held ≡ m → Gives (Stands 0 m) (concluding rest w)
 concluding_stands rest w m e = choice_gives (Stands 0 m) (is_truth rest) _ _ tt ((refl, omega (arith, e)), tt)

@@ -6,6 +6,7 @@ use Rattle.pm_logic.specs.declared.formula.Pure as P
 use Rattle.pm_logic.specs.declared.formula.Formula.{Formula}
 use Rattle.pm_logic.specs.declared.formula.Preds.{Preds}
 use Rattle.pm_goal.specs.declared.goal.Goal.{Goal}
+use Rattle.pm_goal.specs.declared.work.Held.{Held}
 use Rattle.pm_patterns.specs.declared.pattern.Cert.{Cert}
 use Rattle.pm_classes.specs.Classes.{Parts, from_pure, combine}
 use Rattle.pm_table.specs.Outcomes.{Outcome}
@@ -25,7 +26,8 @@ use Rattle.pm_table.proofs.Holding.{Stands, Takes, goal_takes}
 abbrev Rest : Place → Type 0
 Rest = Stands 0 0
 
-here : (0 ≡ 0) × (0 ≡ 0)
+-- neither a pattern nor a hypothesis in hand
+here : (length {A = Bool} [] ≡ 0) × (length {A = Held} [] ≡ 0)
 here = (refl, refl)
 
 pub split_rests : (g : Goal) → Gives Rest (split g)
