@@ -1,5 +1,5 @@
 -- Nothing stays in hand.
-use Rattle.std.proofs.Common.{◌≡◌, ℕ, zero, suc, ◌+◌, Bool, true, false, cond, ◌&&◌, ◌||◌, length, length-append, List, [], ◌∷◌, ◌++◌, map, replicate, reverse, refl, ap, arith, Option, Some, None}
+use Rattle.std.proofs.Common.{◌≡◌, ℕ, suc, ◌+◌, Bool, true, false, cond, ◌&&◌, ◌||◌, length, length-append, List, [], ◌∷◌, map, replicate, reverse, refl, ap, arith}
 use Rattle.std.proofs.lemmas.List.{length-replicate}
 use Rattle.std.specs.List.{list_all}
 use Rattle.pm_logic.specs.declared.formula.Term.{Term}
@@ -8,7 +8,6 @@ use Rattle.pm_logic.specs.declared.formula.Preds.{Preds}
 use Rattle.pm_logic.specs.Trees.{Wand, Imp, All}
 use Rattle.pm_logic.specs.Size.{term_nodes, pure_nodes, nodes_of}
 use Rattle.pm_goal.specs.declared.goal.Goal.{Goal}
-use Rattle.pm_goal.specs.declared.work.Held.{Held}
 use Rattle.pm_goal.specs.declared.work.Work.{Work}
 use Rattle.pm_goal.specs.declared.work.Lemmas.{Lemmas}
 use Rattle.pm_goal.specs.declared.refusal.Row.{Row}
@@ -30,7 +29,7 @@ use Rattle.pm_table.specs.declared.place.Place.{Place}
 use Rattle.pm_table.specs.declared.place.Place.TheVariants.{Finished as finished, Current as current}
 use Rattle.pm_table.specs.Limits.{resting}
 use Rattle.pm_table.specs.Works.{Named, at_rest}
-use Rattle.pm_table.specs.Running.{Run, after, once, in_place, in_turn, on_all, turns_behind, with_turn, act, act_with, each_alone, for_each, in_order}
+use Rattle.pm_table.specs.Running.{Run, after, once, in_place, in_turn, with_turn, act, act_with, each_alone, for_each, in_order}
 use Rattle.pm_table.specs.Introductions.{is_empty, intro_hyp, intro_all_fresh}
 use Rattle.pm_table.specs.Destructs as destructs
 use Rattle.pm_table.specs.Destructs.{name_held, name_fresh, drop_held, either, absurd_held, to_pure, to_pure_fresh, to_int, to_spat}

@@ -1,10 +1,7 @@
 -- How many hypotheses are in hand after each action, and how many patterns are to come.
-use Rattle.std.proofs.Common.{◌≡◌, ℕ, zero, suc, ◌+◌, Bool, true, false, not, find, flat_map, ◌||◌, ◌==◌, length, length-append, List, [], ◌∷◌, ◌++◌, map, replicate, refl, ap, subst, arith, Option, Some, None, is_some, option_and_then}
-use Rattle.std.specs.List.{list_all}
+use Rattle.std.proofs.Common.{◌≡◌, ℕ, zero, suc, ◌+◌, Bool, true, false, not, length, length-append, List, [], ◌∷◌, ◌++◌, replicate, refl, ap, subst, arith, Option, Some, None, is_some, option_and_then}
 use Rattle.pm_logic.specs.declared.formula.Term.{Term}
-use Rattle.pm_logic.specs.declared.formula.Pure as P
 use Rattle.pm_logic.specs.declared.formula.Formula.{Formula}
-use Rattle.pm_logic.specs.declared.formula.Preds.{Preds}
 use Rattle.pm_logic.specs.Trees.{And}
 use Rattle.pm_logic.specs.Substitution.{shift_of}
 use Rattle.pm_goal.specs.declared.goal.Goal.{Goal}
@@ -14,31 +11,26 @@ use Rattle.pm_goal.specs.declared.work.Held.{Held}
 use Rattle.pm_goal.specs.declared.work.Work.{Work}
 use Rattle.pm_goal.specs.declared.work.Lemmas.{Lemmas}
 use Rattle.pm_patterns.specs.declared.pattern.Pat.{Pat}
-use Rattle.pm_patterns.specs.declared.pattern.Cert.{Cert}
 use Rattle.pm_patterns.specs.declared.pattern.Spat as S
 use Rattle.pm_patterns.specs.declared.pattern.Spat.TheVariants as premise
-use Rattle.pm_classes.specs.Classes.{Parts, into_or, into_pure, into_forall, into_wand, from_pure, combine}
+use Rattle.pm_classes.specs.Classes.{Parts, into_or, into_pure, into_forall, into_wand, from_pure}
 use Rattle.pm_classes.specs.Persistence.{is_persistent}
 use Rattle.pm_table.specs.Outcomes.{Outcome, Action, gives, refused, one}
 use Rattle.pm_table.specs.declared.place.Place.{Place}
 use Rattle.pm_table.specs.declared.place.Place.TheVariants.{Finished as finished, Current as current}
-use Rattle.pm_table.specs.Works.{Named, Hand, behind, hand_or, hand_of, acting_on, with_last, where_none, at_rest, has_fact, has_hyp, has_hyp_or_fact, hyp_named, fact_named, index_named, fits, fresh_name, with_var, with_concl, without_spat, holding, hold, each_held, work_of}
+use Rattle.pm_table.specs.Works.{Named, Hand, hand_or, hand_of, acting_on, with_last, where_none, at_rest, hyp_named, fits, fresh_name, with_concl, without_spat, holding, hold, each_held, work_of}
 use Rattle.pm_table.specs.Introductions.{sides_of, is_blocked, universal_of, intro_hyp, intro_all, intro_all_fresh}
 use Rattle.pm_table.specs.Destructs as destructs
 use Rattle.pm_table.specs.Destructs.{var_name, into_parts, with_hand, name_held, name_fresh, drop_held, body_held, one_part, fourth_way, third_way, parts_or, is_drop, boxed_part, either, absurd_held, is_falsehood, to_pure, to_pure_fresh, to_int, to_spat}
-use Rattle.pm_table.specs.Basic.{on_goal, gives_goal, is_truth, split_parts, star_parts, or_parts, body_of_ex, list_given, is_exact, is_hypothesis, is_fact, reverted, mentions, split, split_at, sides, side, exists, exfalso, exact, assumption, done, try_done, is_done, clear, rename, revert, revert_var}
+use Rattle.pm_table.specs.Basic.{on_goal, is_truth, is_done}
 use Rattle.pm_table.specs.Patterns.{opening, outcome_with, intro_one, intro_var_or_hyp}
-use Rattle.pm_table.specs.Modalities.{under_update, Modality, passed, mod_intro, later, head_intro, next, elim_update, modality_of}
-use Rattle.pm_table.specs.Rewriting.{Equation, equation_of, rewritten, occurs, occurs_in_pure, subst_held, rewrite_at, rewrite, pure_intro, cases}
-use Rattle.pm_table.specs.Heap.{full_location, combine_held, write, allocate}
-use Rattle.pm_table.specs.Loeb.{body_of_call, formula_named, loeb, unfold_call, fold_call}
-use Rattle.pm_table.specs.Linears.{names_of, is_atom, linear_conclusion, are_small, in_box, atoms, readings, given_twice, fact_passes, certify, linear, linear_with}
-use Rattle.pm_table.specs.Equality.{formula_eq}
+use Rattle.pm_table.specs.Modalities.{under_update, elim_update}
+use Rattle.pm_table.specs.Rewriting.{equation_of, rewritten, subst_held}
 use Rattle.pm_table.specs.Framing.{frame}
 use Rattle.pm_table.specs.Terms.{held_as, lemma_named, premises, Step, take, lend, lemma, with_term, with_spat, assert, framed, by_pattern, keeping, picked, picked_framed, premise_goals, apply, concluding, frame_held, frame_named, frame_member, passing, is_premise}
-use Rattle.pm_table.specs.Running.{Run, turns_behind, with_turn}
+use Rattle.pm_table.specs.Running.{turns_behind, with_turn}
 use Rattle.pm_table.specs.Stepping.{Each}
-use Rattle.pm_table.proofs.Placing.{Gives, joined_gives, choice_gives, require_gives, require_plain_gives, require_some_gives, require_entry_gives, refuse_where_gives, all_spatial_gives, each_map}
+use Rattle.pm_table.proofs.Placing.{Gives, joined_gives, choice_gives, require_gives, require_plain_gives, require_some_gives, require_entry_gives, all_spatial_gives, each_map}
 
 -- ---- turns
 

@@ -1,5 +1,5 @@
 -- What holds of each place, before and after actions.
-use Rattle.std.proofs.Common.{◌≡◌, ℕ, Bool, true, false, cond, not, find, List, [], ◌∷◌, ◌++◌, map, Option, Some, None}
+use Rattle.std.proofs.Common.{ℕ, Bool, true, false, cond, not, find, List, [], ◌∷◌, ◌++◌, map, Option, Some, None}
 use Rattle.pm_goal.specs.declared.goal.Goal.{Goal}
 use Rattle.pm_goal.specs.declared.work.Work.{Work}
 use Rattle.pm_goal.specs.declared.refusal.Row.{Row}

@@ -1,5 +1,5 @@
 -- Actions on goals leave nothing in hand, or one hypothesis that they hold.
-use Rattle.std.proofs.Common.{◌≡◌, ℕ, suc, Bool, true, false, not, find, flat_map, ◌||◌, ◌==◌, length, List, [], ◌∷◌, refl, Option, Some, None, is_some}
+use Rattle.std.proofs.Common.{◌≡◌, Bool, true, false, not, find, flat_map, ◌||◌, ◌==◌, length, List, [], ◌∷◌, refl, Option, Some, None, is_some}
 use Rattle.std.specs.List.{list_all}
 use Rattle.pm_logic.specs.declared.formula.Term.{Term}
 use Rattle.pm_logic.specs.declared.formula.Pure as P
@@ -9,11 +9,10 @@ use Rattle.pm_goal.specs.declared.goal.Goal.{Goal}
 use Rattle.pm_goal.specs.declared.work.Held.{Held}
 use Rattle.pm_patterns.specs.declared.pattern.Cert.{Cert}
 use Rattle.pm_classes.specs.Classes.{Parts, from_pure, combine}
-use Rattle.pm_table.specs.Outcomes.{Outcome}
 use Rattle.pm_table.specs.declared.place.Place.{Place}
 use Rattle.pm_table.specs.Works.{Named, has_fact, has_hyp, has_hyp_or_fact, hyp_named, fact_named, index_named, fits}
 use Rattle.pm_table.specs.Destructs.{is_falsehood}
-use Rattle.pm_table.specs.Basic.{on_goal, split_parts, star_parts, or_parts, body_of_ex, list_given, is_exact, is_hypothesis, is_fact, reverted, mentions, split, split_at, sides, side, exists, exfalso, exact, assumption, done, try_done, is_done, clear, rename, revert, revert_var}
+use Rattle.pm_table.specs.Basic.{split_parts, star_parts, or_parts, body_of_ex, list_given, is_exact, is_hypothesis, is_fact, reverted, mentions, split, split_at, sides, side, exists, exfalso, exact, assumption, done, try_done, is_done, clear, rename, revert, revert_var}
 use Rattle.pm_table.specs.Modalities.{under_update, Modality, passed, mod_intro, later, head_intro, next, modality_of}
 use Rattle.pm_table.specs.Rewriting.{Equation, equation_of, occurs, occurs_in_pure, rewrite_at, rewrite, pure_intro, cases}
 use Rattle.pm_table.specs.Heap.{full_location, combine_held, write, allocate}
@@ -21,7 +20,7 @@ use Rattle.pm_table.specs.Loeb.{body_of_call, formula_named, loeb, unfold_call, 
 use Rattle.pm_table.specs.Linears.{names_of, is_atom, linear_conclusion, are_small, in_box, atoms, readings, given_twice, fact_passes, certify, linear, linear_with}
 use Rattle.pm_table.specs.Equality.{formula_eq}
 use Rattle.pm_table.proofs.Placing.{Gives, choice_gives, require_gives, require_plain_gives, require_some_gives, require_entry_gives, refuse_where_gives, all_spatial_gives}
-use Rattle.pm_table.proofs.Holding.{Stands, Takes, goal_takes}
+use Rattle.pm_table.proofs.Holding.{Stands}
 
 abbrev Rest : Place → Type 0
 Rest = Stands 0 0

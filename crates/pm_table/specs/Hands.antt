@@ -1,5 +1,5 @@
 -- Where patterns stand, and what is in hand where a step ends.
-use Rattle.std.specs.Prelude.{◌≡◌, Bool, true, false, ◌&&◌, List, [], ◌∷◌}
+use Rattle.std.specs.Prelude.{◌≡◌, Bool, true, false, ◌&&◌, []}
 use Rattle.std.specs.List.{list_all}
 use Rattle.pm_logic.specs.declared.formula.Preds.{Preds}
 use Rattle.pm_goal.specs.declared.goal.Goal.{Goal}
