@@ -9,6 +9,10 @@ pub mod Outcomes
 pub mod Counting
 pub mod Apart
 pub mod Deals
+pub mod Placing
+pub mod Holding
+pub mod Rests
+pub mod Hands
 pub mod Scopes
 pub mod Scoping
 pub mod ScopedHands

@@ -19,6 +19,7 @@ pub mod Directives
 pub mod Scopes
 pub mod Parts
 pub mod Stepping
+pub mod Hands
 pub mod Dealing
 pub mod Examples
 pub mod FramingLaws

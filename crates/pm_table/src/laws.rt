@@ -1,6 +1,7 @@
 //! Laws of steps.
 
 ghost use Rattle.pm_table.specs.Dealing.{SplitsDeal, PremisesDeal};
+ghost use Rattle.pm_table.specs.Hands.{NothingStaysInHand};
 ghost use Rattle.pm_table.specs.Parts.{OnlyPartsAreGiven};
 ghost use Rattle.pm_table.specs.Stepping.{StepsStayWithinLimits, StepsKeepNamesApart, StepsStayScoped};
 
@@ -33,4 +34,9 @@ pub fn splits_deal()
 /// `[H $K …]` and `[-H …]` give each spatial hypothesis to exactly one goal, or it is framed.
 pub fn premises_deal()
     ensures { PremisesDeal }
+{}
+
+/// Where a step ends, nothing is in hand, if each pattern of the directive stands where it may.
+pub fn nothing_stays_in_hand()
+    ensures { NothingStaysInHand }
 {}

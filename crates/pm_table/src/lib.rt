@@ -7,8 +7,8 @@ mod place;
 mod promises;
 
 pub use laws::{
-    only_parts_are_given, premises_deal, splits_deal, steps_keep_names_apart, steps_stay_scoped,
-    steps_stay_within_limits,
+    nothing_stays_in_hand, only_parts_are_given, premises_deal, splits_deal,
+    steps_keep_names_apart, steps_stay_scoped, steps_stay_within_limits,
 };
 pub use passage::Passage;
 pub use place::Place;
