@@ -1,1 +1,2 @@
-pub mod Named
+pub mod Changed
+pub mod Looking
