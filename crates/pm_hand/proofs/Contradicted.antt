@@ -117,8 +117,8 @@ closes w l reached rest p n d is few_rules low a b chain =
     let b1 : Proves Every (conclusion rest) [] n d1 k rest = subst (λ e. Proves Every e [] n d1 k rest) (sym b.concludes) b0 in
     let over : across reached rest ≡ meaning w = ap₂ (λ (e g : Entail). entail e.vars e.left g.right) a.concludes b.concludes in
     let scope : ScopedWhere (across reached rest) [] (conclusion reached) =
-      subst (λ e. ScopedWhere e [] (conclusion reached)) (sym over) (subst (λ e. ScopedWhere (meaning w) [] e) (sym a.concludes)
-      (λ preds e hs. (e.0, subst (Scoped preds k) (part_last w l is) (part_of_star preds k w (last_place w) e.0)))) in
+    subst (λ e. ScopedWhere e [] (conclusion reached)) (sym over) (subst (λ e. ScopedWhere (meaning w) [] e) (sym a.concludes)
+    (λ preds e hs. (e.0, subst (Scoped preds k) (part_last w l is) (part_of_star preds k w (last_place w) e.0)))) in
     let all : Proves Every (across reached rest) [] (n1 + n + 1) d1 k p = chain Every [] [] n1 n d1 k a1 b1 scope in
     weaker Every (meaning w) [] (n1 + n + 1) d1 k _ _ _ p (few s (n1 + n + 1) (omega (arith, few_rules, parts_nodes w))) (omega arith) (omega arith)
     (subst (λ e. Proves Every e [] (n1 + n + 1) d1 k p) over all)

@@ -19,7 +19,7 @@ use Rattle.pm_proof.proofs.Fills.{weaker}
 use Rattle.pm_schemes.specs.Sketches.{deepest}
 use Rattle.pm_classes.specs.declared.entry.One.{One}
 use Rattle.pm_classes.specs.Classes.{into_persistent}
-use Rattle.pm_classes.specs.Entries.{HasProof, PersistentAnswer, persistent_says} 
+use Rattle.pm_classes.specs.Entries.{HasProof, PersistentAnswer, persistent_says}
 use Rattle.pm_classes.specs.Entries as entries
 use Rattle.pm_table.specs.declared.place.Place.{Place}
 use Rattle.pm_table.specs.Outcomes.{one, require_entry}

@@ -124,9 +124,10 @@ part_of_star preds k w i s = part_scoped preds k (work_parts w) i (scoped_star p
 
 -- what is said of the last in hand is scoped where both stars are
 pub says_scoped : (w : Work) (l : Held) (is : IsLast w l) (k : Kind) (f : Formula) → ScopedWhere (entail (length w.goal.vars) (left_of_work w) (left_of_work (relast w k f))) [] (last_says w l k f)
-says_scoped w l is k f preds e hs =
-    (subst (Scoped preds (length w.goal.vars)) (part_last w l is) (part_of_star preds (length w.goal.vars) w (last_place w) e.0),
-    subst (Scoped preds (length w.goal.vars)) (relast_part w l is k f) (part_of_star preds (length w.goal.vars) (relast w k f) (last_place w) e.1))
+says_scoped w l is k f preds e hs = (
+  subst (Scoped preds (length w.goal.vars)) (part_last w l is) (part_of_star preds (length w.goal.vars) w (last_place w) e.0),
+  subst (Scoped preds (length w.goal.vars)) (relast_part w l is k f) (part_of_star preds (length w.goal.vars) (relast w k f) (last_place w) e.1),
+)
 
 pub becomes : (w : Work) (l : Held) (k : Kind) (f : Formula) (new : Work) (by t : Tree) (r : Result (Parts Place) StepFault)
     → IsLast w l → conclusion by ≡ last_says w l k f → new ≡ relast w k f
