@@ -29,6 +29,7 @@ use Rattle.pm_logic.specs.Scope.{Scoped}
 use Rattle.pm_table.specs.declared.place.Place.{Place}
 use Rattle.pm_table.specs.Outcomes.{closed, require_plain}
 use Rattle.pm_table.specs.Limits.{limited, all_nodes, work_formulas}
+use Rattle.pm_table.specs.Running.{rules_within}
 use Rattle.pm_table.specs.Destructs as table
 use Rattle.pm_action.specs.Meanings.{meaning, height, room, width}
 use Rattle.pm_action.specs.Acting.{Answers, Ends, IsActed, IsHanded, IsLast, last_place, plainly}
@@ -120,7 +121,7 @@ closes w l reached rest p n d is few_rules low a b chain =
     subst (λ e. ScopedWhere e [] (conclusion reached)) (sym over) (subst (λ e. ScopedWhere (meaning w) [] e) (sym a.concludes)
     (λ preds e hs. (e.0, subst (Scoped preds k) (part_last w l is) (part_of_star preds k w (last_place w) e.0)))) in
     let all : Proves Every (across reached rest) [] (n1 + n + 1) d1 k p = chain Every [] [] n1 n d1 k a1 b1 scope in
-    weaker Every (meaning w) [] (n1 + n + 1) d1 k _ _ _ p (few s (n1 + n + 1) (omega (arith, few_rules, parts_nodes w))) (omega arith) (omega arith)
+    weaker Every (meaning w) [] (n1 + n + 1) d1 k (rules_within s) (room w []) (width w) p (few s (n1 + n + 1) (omega (arith, few_rules, parts_nodes w))) (omega arith) (omega arith)
     (subst (λ e. Proves Every e [] (n1 + n + 1) d1 k p) over all)
 
 -- the proof from falsehood, as what is last in hand

@@ -26,6 +26,7 @@ use Rattle.pm_table.specs.Outcomes.{one, require_entry}
 use Rattle.pm_table.specs.Limits.{limited, all_nodes, work_formulas}
 use Rattle.pm_table.specs.Works.{holding, work_of}
 use Rattle.pm_table.specs.Destructs as table
+use Rattle.pm_action.specs.Meanings.{room, width}
 use Rattle.pm_action.specs.Acting.{Answers, IsHanded, IsLast, StaysAs, all_but_last, plainly}
 use Rattle.pm_action.proofs.Hands.{with_last_is, held_is}
 use Rattle.pm_hand.specs.Changed.{relast, last_says, boxing, GivesOne, BecomesOne}
@@ -55,7 +56,7 @@ pub unbox_given : (w : Work) (l : Held) (by : Tree) (r : Result (Parts Place) St
     → BecomesOne w (relast w Spat l.formula) by r → GivesOne w (relast w Spat l.formula) r
 unbox_given w l by r is p b =
     b 1 (deepest (l.formula ∷ []) [] + 1)
-    (subst (λ e. Proves Every e [] 1 (deepest (l.formula ∷ []) [] + 1) _ by) (sym p.concludes) (weaker Every (entail (length w.goal.vars) (view.Pers l.formula) l.formula) [] 1 (deepest (l.formula ∷ []) [] + 1) (length w.goal.vars) 1 (deepest (l.formula ∷ []) [] + 1) _ by (omega arith) (omega arith) (omega arith) p))
+    (subst (λ e. Proves Every e [] 1 (deepest (l.formula ∷ []) [] + 1) (width w) by) (sym p.concludes) (weaker Every (entail (length w.goal.vars) (view.Pers l.formula) l.formula) [] 1 (deepest (l.formula ∷ []) [] + 1) (length w.goal.vars) 1 (deepest (l.formula ∷ []) [] + 1) (width w) by (omega arith) (omega arith) (omega arith) p))
     (omega arith)
     (omega (arith, last_depth w l is))
 
@@ -102,6 +103,6 @@ box_given w l x r is a b = by (into_persistent l.formula) a
         let e = persistent_says (length w.goal.vars) l.formula g in
         let n = 200 * nodes_of l.formula in
         let d = depth_of l.formula + 8 in
-        let known = weaker Every e [] n d (length w.goal.vars + depth_of l.formula) n d _ x.proof (omega arith) (omega arith) (omega (arith, last_depth w l is)) a.proof in
+        let known = weaker Every e [] n d (length w.goal.vars + depth_of l.formula) n d (width w) x.proof (omega arith) (omega arith) (omega (arith, last_depth w l is)) a.proof in
         subst (λ y. GivesOne w (relast w Int y) r) a.formula
-        (b n d (subst (λ c. Proves Every c [] n d _ x.proof) (sym a.proof.concludes) known) (omega (arith, last_nodes w l is)) (omega (arith, last_depth w l is)))
+        (b n d (subst (λ c. Proves Every c [] n d (width w) x.proof) (sym a.proof.concludes) known) (omega (arith, last_nodes w l is)) (omega (arith, last_depth w l is)))

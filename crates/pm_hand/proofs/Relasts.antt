@@ -47,7 +47,7 @@ front : (hs : List Held) (l : Held) → take (length hs) (hs ++ l ∷ []) ≡ hs
 front [] l = refl
 front (h ∷ hs) l = ap (λ xs. h ∷ xs) (front hs l)
 
-all_but_end : (hs : List Held) (l : Held) → all_but_last (hs ++ l ∷ []) ≡ hs
+pub all_but_end : (hs : List Held) (l : Held) → all_but_last (hs ++ l ∷ []) ≡ hs
 all_but_end hs l =
     let n : length (hs ++ l ∷ []) - 1 ≡ length hs = omega (arith, length-append hs (l ∷ [])) in
     ap (λ i. take i (hs ++ l ∷ [])) n ∙ front hs l

@@ -12,8 +12,7 @@ ghost use Rattle.pm_table.specs.Works.{hold};
 ghost use Rattle.pm_action.specs.Meanings.{height};
 
 use crate::steps::boxed;
-use pm_action::with_held;
-use pm_goal::{Kind, Work, copy_work};
+use pm_goal::{Held, Kind, Work, copy_work};
 use pm_logic::{Formula, Memory, Pure, copy_pure};
 use pm_proof::Proof;
 use pm_star::replace_at_held;
@@ -32,8 +31,9 @@ pub fn count(work: &Work) -> u32
 pub fn hold(work: Work, kind: Kind, formula: Formula) -> Result<Work, Memory>
     ensures { IfOk result (λ w. w ≡ hold kind formula work) }
 {
-    let Work { goal, held } = work;
-    with_held(goal, held, kind, formula)
+    let mut work = work;
+    work.held.push(Held { kind, formula })?;
+    Ok(work)
 }
 
 /// From the star with the fact last in hand to the star with the fact in hand as an intuitionistic one.

@@ -28,9 +28,9 @@ fn less(alloc: Global, work: &Work, name: &Name) -> Result<Work, Memory>
     requires { IsHanded work.now }
     ensures { IfOk result (λ w. w ≡ less work.now name.now) }
 {
-    let Work { goal: _, held } = copy_work(alloc, work)?;
-    let goal = without_named(alloc, &work.goal, name)?;
-    Ok(Work { goal, held })
+    let mut out = copy_work(alloc, work)?;
+    out.goal = without_named(alloc, &work.goal, name)?;
+    Ok(out)
 }
 
 /// From the star to the star with the part of the name at its end.
