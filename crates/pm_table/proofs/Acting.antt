@@ -171,7 +171,7 @@ module _ (k : Kept) (preds : Preds) (lemmas : Lemmas) (each : ActionsKeep k pred
 
   run_actions_in : (row : Row) (actions : List Action) → Each Keeping actions → GoodRun k.holds (run_actions row actions)
   run_actions_in row [] good w h = tt
-  run_actions_in row (a ∷ as) good w h = for_each_in k.holds Keeping (λ x. x) (λ x i. i) (a ∷ as) good w h
+  run_actions_in row (a ∷ more) good w h = for_each_in k.holds Keeping (λ x. x) (λ x i. i) (a ∷ more) good w h
 
   universals_in : (f : Formula) → Each Keeping (universals f)
   universals_in (All b) = (rested intro_all_fresh each.intro_all_fresh, universals_in b)

@@ -126,3 +126,8 @@ rest_in P (x ∷ hs) o q h g = g
 
 pub rest_good : (P : Work → Type 0) (action : Action) → Good P action → Good P one → Good P (at_rest action)
 rest_good P action good stays w h = rest_in P w.held (action w) (one w) (good w h) (stays w h)
+
+-- the same of what it gives, whatever the limits
+pub rests_in : (P : Work → Type 0) (hs : List Held) (o q : Outcome) → InOutcome P o → InOutcome P q → InOutcome P (where_none hs o q)
+rests_in P [] o q h g = h
+rests_in P (x ∷ hs) o q h g = g

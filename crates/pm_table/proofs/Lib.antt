@@ -17,3 +17,6 @@ pub mod ScopedFrames
 pub mod ScopedTerms
 pub mod ScopedRules
 pub mod StaysScoped
+pub mod PartsOfClasses
+pub mod PartsGiven
+pub mod ScopedActions

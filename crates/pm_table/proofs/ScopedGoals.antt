@@ -1,8 +1,7 @@
 -- Goals that are split, chosen, closed, cleared, renamed and reverted stay scoped.
-use Rattle.std.proofs.Common.{◌≡◌, ℕ, zero, suc, ◌<◌, ◌≤◌, Bool, true, false, cond, not, ◌||◌, List, [], ◌∷◌, length, refl, ap, sym, subst, arith, Option, Some, None, option_map, bytes_eq}
+use Rattle.std.proofs.Common.{◌≡◌, ℕ, suc, ◌<◌, ◌≤◌, Bool, true, false, cond, not, ◌||◌, List, [], ◌∷◌, length, refl, ap, subst, arith, Option, Some, None, option_map, bytes_eq}
 use Rattle.std.specs.List.{AllByRecursion, list_any}
 use Rattle.pm_logic.specs.declared.formula.Term.{Term}
-use Rattle.pm_logic.specs.declared.formula.Pure as P
 use Rattle.pm_logic.specs.declared.formula.Pure.TheVariants.{False}
 use Rattle.pm_logic.specs.declared.formula.Formula.{Formula}
 use Rattle.pm_logic.specs.declared.formula.Formula.TheVariants.{Pure as Assert}
@@ -18,17 +17,16 @@ use Rattle.pm_goal.specs.declared.work.Work.{Work}
 use Rattle.pm_goal.specs.Find.{first_of_two}
 use Rattle.pm_classes.specs.Classes.{Parts, parts}
 use Rattle.pm_classes.specs.Persistence.{is_persistent}
-use Rattle.pm_table.specs.Outcomes.{Outcome}
 use Rattle.pm_table.specs.Limits.{resting}
 use Rattle.pm_table.specs.Occurrences.{in_a_pure, in_a_formula, without, to_front}
 use Rattle.pm_table.specs.Works
 use Rattle.pm_table.specs.Works.{Named, hyp_named, fact_named, index_named, has_hyp_or_fact, fits, is_listed, hyps_in, hyps_out, without_named}
 use Rattle.pm_table.specs.Basic.{on_goal, for, with_spats, split_parts, star_parts, or_parts, body_of_ex, list_given, is_exact, is_hypothesis, is_fact, reverted, mentions, names_but, without_var, split, split_at, sides, side, exists, exfalso, exact, assumption, done, try_done, is_done, clear, rename, renamed, with_renamed, revert, revert_var, chosen, unchosen}
-use Rattle.pm_table.specs.Scopes.{GoalScopedIn, WorkScopedIn, IsGoalScoped, IsWorkScoped}
+use Rattle.pm_table.specs.Scopes.{GoalScopedIn, IsGoalScoped}
 use Rattle.pm_table.proofs.Keeping.{InOutcome}
 use Rattle.pm_table.proofs.Outcomes.{chosen_in, require_in, require_plain_in, require_some_in, all_spatial_in}
-use Rattle.pm_table.proofs.Scopes.{of_sep, of_and, of_or, of_ex, of_facts, of_either, falsehood, wand, pers, all, fact, opened, pure_without, formula_without, to_front_scoped}
-use Rattle.pm_table.proofs.Scoping.{HypsIn, FactsIn, OneIn, PartsIn, Inside, all_filter, all_map, one_of_two, either_formula, hyp_named_in, fact_named_in, as_formula, parts_chosen, concl_in, without_named_in, entry_in, named_in, parts_in}
+use Rattle.pm_table.proofs.Scopes.{of_sep, of_and, of_or, of_ex, of_facts, of_either, falsehood, wand, pers, all, opened, pure_without, formula_without, to_front_scoped}
+use Rattle.pm_table.proofs.Scoping.{HypsIn, OneIn, PartsIn, Inside, all_filter, all_map, one_of_two, either_formula, hyp_named_in, fact_named_in, as_formula, parts_chosen, concl_in, without_named_in, entry_in, named_in, parts_in}
 
 -- ---- parts
 
@@ -108,12 +106,12 @@ without_var_in preds x i m g low e h =
     let pures : Bool = list_any (λ (f : Fact). in_a_pure i f.pure) g.pures in
     let ints : Bool = list_any (λ (h : Hyp). in_a_formula i h.formula) g.ints in
     let spats : Bool = list_any (λ (h : Hyp). in_a_formula i h.formula) g.spats in
-    let first = neither pures (ints || spats) e in
-    let second = neither ints spats first.1 in
+    let first = neither (pures || ints) spats e in
+    let second = neither pures ints first.0 in
     record {
-      pures = facts_without i m g.pures low first.0 h.pures;
-      ints = hyps_without preds i m g.ints low second.0 h.ints;
-      spats = hyps_without preds i m g.spats low second.1 h.spats;
+      pures = facts_without i m g.pures low second.0 h.pures;
+      ints = hyps_without preds i m g.ints low second.1 h.ints;
+      spats = hyps_without preds i m g.spats low first.1 h.spats;
       concl = all preds m (in_formula (to_front i) g.concl) (to_front_scoped preds i m g.concl low h.concl);
     }
 

@@ -1,14 +1,12 @@
 -- What is introduced, taken in hand, named and taken apart stays scoped.
-use Rattle.std.proofs.Common.{◌≡◌, ℕ, suc, ◌≤◌, Bool, true, false, cond, not, List, [], ◌∷◌, ◌++◌, length, refl, subst, Option, Some, None, option_map}
-use Rattle.std.specs.List.{AllByRecursion}
+use Rattle.std.proofs.Common.{◌≡◌, ℕ, suc, Bool, true, false, not, List, [], ◌∷◌, ◌++◌, length, refl, subst, Option, Some, None, option_map}
 use Rattle.pm_logic.specs.declared.formula.Pure as P
 use Rattle.pm_logic.specs.declared.formula.Formula.{Formula}
 use Rattle.pm_logic.specs.declared.formula.Formula.TheVariants.{Pure as Assert}
 use Rattle.pm_logic.specs.declared.formula.Preds.{Preds}
 use Rattle.pm_logic.specs.Trees.{Wand, And, Imp, All}
 use Rattle.pm_logic.specs.Substitution.{shift_of}
-use Rattle.pm_logic.specs.Scope.{PureScoped, Scoped}
-use Rattle.pm_goal.specs.declared.goal.Goal.{Goal}
+use Rattle.pm_logic.specs.Scope.{Scoped}
 use Rattle.pm_goal.specs.declared.work.Kind.{Kind}
 use Rattle.pm_goal.specs.declared.work.Kind.TheVariants.{Int, Spat}
 use Rattle.pm_goal.specs.declared.work.Held.{Held}
@@ -18,7 +16,7 @@ use Rattle.pm_patterns.specs.declared.pattern.Pat.{Pat}
 use Rattle.pm_classes.specs.Classes.{Parts, into_sep, into_and, into_or, into_exist, into_pure, into_persistent}
 use Rattle.pm_classes.proofs.Scoped as entries
 use Rattle.pm_table.specs.Outcomes.{Outcome, one}
-use Rattle.pm_table.specs.Works.{Named, Hand, hyp_named, fact_named, has_fact, fits, fresh_name, with_hyp, with_fact, with_var, with_concl, without_named, without_spat, each_held, holding, hold, work_of}
+use Rattle.pm_table.specs.Works.{Named, Hand, hyp_named, fact_named, fits, fresh_name, with_hyp, with_concl, without_named, without_spat, each_held, holding, work_of}
 use Rattle.pm_table.specs.Introductions.{Sides, sides_of, is_blocked, universal_of, intro_hyp, intro_all, intro_all_fresh}
 use Rattle.pm_table.specs.Destructs as destructs
 use Rattle.pm_table.specs.Destructs.{var_name, into_parts, with_hand, name_held, name_fresh, drop_held, body_held, one_part, fourth_way, third_way, parts_or, is_drop, boxed_part, either, absurd_held, is_falsehood, to_pure, to_pure_fresh, to_int, to_spat}
@@ -28,7 +26,7 @@ use Rattle.pm_table.specs.Scopes.{IsWorkScoped}
 use Rattle.pm_table.proofs.Keeping.{InOutcome}
 use Rattle.pm_table.proofs.Outcomes.{opening_in, require_in, require_plain_in, require_some_in, require_entry_in}
 use Rattle.pm_table.proofs.Scopes.{of_wand, of_and, of_imp, of_all, of_fact, shifted, fact}
-use Rattle.pm_table.proofs.Scoping.{HypsIn, HeldIn, OneIn, PureIn, PartsIn, HandScoped, Inside, all_append, hyp_named_in, fact_named_in, held_more, concl_in, without_named_in, without_spat_in, with_fact_in, with_hyp_in, held_shifted, wider, held_then, with_hand_in, entry_in}
+use Rattle.pm_table.proofs.Scoping.{HeldIn, OneIn, PureIn, PartsIn, HandScoped, Inside, all_append, hyp_named_in, fact_named_in, held_more, concl_in, without_named_in, without_spat_in, with_fact_in, with_hyp_in, held_shifted, wider, held_then, with_hand_in, entry_in}
 
 -- ---- what is there
 
@@ -136,9 +134,11 @@ module _ (preds : Preds) (n : ℕ) where
 
   body_held_in : (w : Work) (hand : Hand) (x : Named) (b : Formula) → In w → HandScoped preds (length w.goal.vars) hand → Scoped preds (suc (length w.goal.vars)) b → InOutcome In (body_held w hand x b)
   body_held_in w hand x b h g s = require_in In (fits w.goal x) _ _ _ (λ free.
-      let k : ℕ = length w.goal.vars in
-      (wider preds n x (shift_of w.goal.concl) (each_held shift_of hand.others ++ (holding hand.last.kind b ∷ [])) w.goal h.least h.scoped.goal (shifted preds k w.goal.concl h.scoped.goal.concl)
-      (held_more preds (suc k) hand.last.kind b (each_held shift_of hand.others) (held_shifted preds k hand.others g.others) s), tt))
+      let k : ℕ = length w.goal.vars in (
+        wider preds n x (shift_of w.goal.concl) (each_held shift_of hand.others ++ (holding hand.last.kind b ∷ [])) w.goal h.least h.scoped.goal (shifted preds k w.goal.concl h.scoped.goal.concl)
+            (held_more preds (suc k) hand.last.kind b (each_held shift_of hand.others) (held_shifted preds k hand.others g.others) s),
+        tt,
+      ))
 
   third_way_in : (w : Work) (hand : Hand) (x : Option Named) (b : Option Formula) (o : Outcome) → In w → HandScoped preds (length w.goal.vars) hand → OneIn preds (suc (length w.goal.vars)) b → InOutcome In o → InOutcome In (third_way w hand x b o)
   third_way_in w hand (Some x) (Some b) o h g s i = body_held_in w hand x b h g s

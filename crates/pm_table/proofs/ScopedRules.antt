@@ -1,8 +1,8 @@
 -- Modalities, points-to, predicates' bodies, induction, equations and cases: what they make of scoped works is scoped.
-use Rattle.std.proofs.Common.{◌≡◌, ℕ, zero, suc, ◌+◌, ◌≤◌, Bool, true, false, cond, not, ◌==◌, nat_lt, length, List, [], ◌∷◌, map, filter, find, flat_map, refl, sym, ap, ap₂, subst, arith, Option, Some, None, is_some, option_map, option_and_then, bytes_eq, slice_get}
+use Rattle.std.proofs.Common.{◌≡◌, ℕ, zero, suc, ◌+◌, ◌≤◌, Bool, true, false, cond, not, ◌==◌, nat_lt, length, List, [], ◌∷◌, find, flat_map, refl, sym, ap, ap₂, subst, arith, Option, Some, None, is_some, option_and_then, bytes_eq, slice_get}
 use Rattle.std.specs.Prelude.{MatchOption}
 use Rattle.std.specs.Bool.{then_some}
-use Rattle.std.specs.List.{AllByRecursion, list_all}
+use Rattle.std.specs.List.{list_all}
 use Rattle.std.proofs.lemmas.Bool.Decides.{nat_tests}
 use Rattle.pm_logic.specs.declared.formula.Term.{Term}
 use Rattle.pm_logic.specs.declared.formula.Term.TheVariants.{Lit, Var}
@@ -14,11 +14,11 @@ use Rattle.pm_logic.specs.declared.formula.Formula.TheViews as view
 use Rattle.pm_logic.specs.declared.formula.Pred.{Pred}
 use Rattle.pm_logic.specs.declared.formula.Preds.{Preds}
 use Rattle.pm_logic.specs.declared.formula.TheConstants.{UNIT}
-use Rattle.pm_logic.specs.Trees.{add, sub, neg, scale, nope, Sep, Wand, And, Or, Later, Pers, Upd}
+use Rattle.pm_logic.specs.Trees.{add, sub, neg, scale, nope, Sep, And, Or, Later, Pers, Upd}
 use Rattle.pm_logic.specs.Changes.{changed_pure, changed}
 use Rattle.pm_logic.specs.Abstraction.{term_eq, abstracted, abstract_of}
-use Rattle.pm_logic.specs.Substitution.{first, in_pure, entries, raised, raised_by, shift_of, subst_of, opened_of}
-use Rattle.pm_logic.specs.Scope.{TermScoped, TermsScoped, PureScoped, ScopedIn, CallFits, CallsFit, Scoped, body_of}
+use Rattle.pm_logic.specs.Substitution.{first, entries, raised, raised_by, shift_of}
+use Rattle.pm_logic.specs.Scope.{TermScoped, PureScoped, ScopedIn, CallFits, CallsFit, Scoped, body_of}
 use Rattle.pm_logic.proofs.Grows.{term_grows, pure_grows}
 use Rattle.pm_logic.proofs.Kept.{entries_reach, first_reaches, abstract_of_scoped, changed_fits}
 use Rattle.pm_logic.proofs.Scopes.{sep_scoped_in, sep_fit}
@@ -27,32 +27,30 @@ use Rattle.pm_goal.specs.declared.goal.Fact.{Fact}
 use Rattle.pm_goal.specs.declared.goal.Goal.{Goal}
 use Rattle.pm_goal.specs.declared.work.Kind.TheVariants.{Spat}
 use Rattle.pm_goal.specs.declared.work.Work.{Work}
-use Rattle.pm_goal.specs.Find.{first_of_two}
 use Rattle.pm_patterns.specs.declared.pattern.Cert.{Cert}
 use Rattle.pm_classes.specs.Classes.{into_pure, from_pure, combine, together}
 use Rattle.pm_classes.proofs.Scoped as class
 use Rattle.pm_table.specs.declared.passage.Passage.{Passage}
 use Rattle.pm_table.specs.declared.passage.Passage.TheVariants as passage
-use Rattle.pm_table.specs.Outcomes.{Outcome, one}
 use Rattle.pm_table.specs.Limits.{resting}
 use Rattle.pm_table.specs.Works
 use Rattle.pm_table.specs.Works.{Named, hyp_named, fact_named, has_hyp, has_fact, fits, is_listed, hyps_out, with_int, with_fact, with_var, each_hyp, each_fact, each_held, holding, work_of}
 use Rattle.pm_table.specs.Destructs.{is_falsehood}
-use Rattle.pm_table.specs.Basic.{on_goal, for, with_spats}
+use Rattle.pm_table.specs.Basic.{on_goal, with_spats}
 use Rattle.pm_table.specs.Equality.{formula_eq}
-use Rattle.pm_table.specs.Modalities.{under_later, under_box, under_update, without_later, Modality, later, box, update, passed, acted, mod_intro, modality_of, head_intro, next, elim_update}
-use Rattle.pm_table.specs.Heap.{put_in, put, holding_combined, combine_held, full_location, write, allocate}
+use Rattle.pm_table.specs.Modalities.{under_box, under_update, without_later, Modality, later, passed, acted, mod_intro, modality_of, head_intro, next, elim_update}
+use Rattle.pm_table.specs.Heap.{put_in, put, combine_held, full_location, write, allocate}
 use Rattle.pm_table.specs.Loeb.{wands, loeb, body_of_call, formula_named, unfold_call, fold_call}
-use Rattle.pm_table.specs.Rewriting.{Equation, equation, equation_of, opening_pure, rewritten, rewritten_pure, occurs, occurs_in_pure, rewritten_goal, subst_held, put_fact_in, put_fact, rewrite_concl, rewrite_hyp, rewrite_fact, rewrite_at, rewrite, pure_intro, cases}
+use Rattle.pm_table.specs.Rewriting.{Equation, equation, equation_of, opening_pure, rewritten, rewritten_pure, occurs, occurs_in_pure, rewritten_goal, subst_held, put_fact_in, put_fact, rewrite_at, rewrite, pure_intro, cases}
 use Rattle.pm_table.specs.Linears.{is_atom, linear_conclusion, are_small, in_box, atoms, readings, given_twice, fact_passes, certify, linear, linear_with}
 use Rattle.pm_table.specs.Linears.{names_of as names_of_cert}
-use Rattle.pm_table.specs.Scopes.{GoalScopedIn, IsGoalScoped, IsWorkScoped, AreBodiesScoped}
+use Rattle.pm_table.specs.Scopes.{GoalScopedIn, AreBodiesScoped}
 use Rattle.pm_table.proofs.Keeping.{InOutcome}
 use Rattle.pm_table.proofs.Outcomes.{chosen_in, require_in, require_plain_in, require_some_in, require_entry_in, all_spatial_in, refuse_where_in}
-use Rattle.pm_table.proofs.Scopes.{newest, raised_scoped, of_sep, of_and, of_or, of_later, of_pers, of_upd, of_fact, of_location, of_units, of_equation, sep, wand, and_, or_, pers, fact, falsehood, equation, points_to, not_pure, moved, pure_moved, shifted, opened, grown}
+use Rattle.pm_table.proofs.Scopes.{newest, raised_scoped, of_sep, of_and, of_or, of_later, of_pers, of_upd, of_fact, of_location, of_units, of_equation, sep, wand, and_, or_, pers, fact, falsehood, points_to, not_pure, moved, pure_moved, shifted, opened, grown}
 use Rattle.pm_table.proofs.Scopes as scope
-use Rattle.pm_table.proofs.Scoping.{HypsIn, FactsIn, OneIn, PureIn, Inside, all_filter, one_of_two, either_formula, hyp_named_in, fact_named_in, concl_in, with_fact_in, with_int_in, hyps_changed, facts_changed, held_changed, wider, held_then, with_hand_in, entry_in, named_in}
-use Rattle.pm_table.proofs.ScopedFrames.{some_if, under_later_in}
+use Rattle.pm_table.proofs.Scoping.{HypsIn, FactsIn, OneIn, PureIn, Inside, all_filter, one_of_two, either_formula, hyp_named_in, fact_named_in, with_fact_in, with_int_in, hyps_changed, facts_changed, held_changed, wider, held_then, with_hand_in, entry_in, named_in}
+use Rattle.pm_table.proofs.ScopedFrames.{under_later_in}
 use Rattle.pm_table.proofs.ScopedGoals.{rest_in, concluded}
 
 -- ---- modalities
@@ -136,6 +134,7 @@ together_in preds k l a v b w s t = within (nat_lt UNIT (a + b)) refl
   where
     whole : a + b ≤ UNIT → Scoped preds k (Pts l (a + b) v)
     whole le = let terms = of_location preds k l a v s in let units = of_units preds k l a v s in let some = units.0 in points_to preds k l (a + b) v terms.0 terms.1 (omega (arith, some)) le
+
     within : (c : Bool) → nat_lt UNIT (a + b) ≡ c → Scoped preds k (cond c (Assert False) (cond (term_eq v w) (Pts l (a + b) v) (view.Sep (Assert (Eq v w)) (Pts l (a + b) v))))
     within true e = falsehood preds k
     within false e =
@@ -289,9 +288,11 @@ module _ (preds : Preds) (n : ℕ) where
 
   pub allocate_in : (t : Term) (l : Named) (w : Work) → TermScoped n t → In w → InOutcome In (allocate t l w.goal)
   allocate_in t l w given h = let k : ℕ = length w.goal.vars in
-      require_plain_in In (is_some (under_update w.goal.concl)) _ _ (λ e. require_in In (fits w.goal l) _ _ _ (λ free.
-      (wider preds n l (shift_of w.goal.concl) (holding Spat (Pts (Var 0) UNIT (raised t)) ∷ []) w.goal h.least h.scoped.goal (shifted preds k w.goal.concl h.scoped.goal.concl)
-      (full preds (suc k) (Var 0) (raised t) (newest k) (raised_scoped k t (term_grows n k t h.least given)), tt), tt)))
+      require_plain_in In (is_some (under_update w.goal.concl)) _ _ (λ e. require_in In (fits w.goal l) _ _ _ (λ free. (
+        wider preds n l (shift_of w.goal.concl) (holding Spat (Pts (Var 0) UNIT (raised t)) ∷ []) w.goal h.least h.scoped.goal (shifted preds k w.goal.concl h.scoped.goal.concl)
+            (full preds (suc k) (Var 0) (raised t) (newest k) (raised_scoped k t (term_grows n k t h.least given)), tt),
+        tt,
+      )))
 
   -- ---- induction and predicates' bodies
 
@@ -343,9 +344,10 @@ module _ (preds : Preds) (n : ℕ) where
   pub cases_in : (p : P.Pure) (x : Named) (w : Work) → PureScoped n p → In w → InOutcome In (cases p x w.goal)
   cases_in p x w given h = let k : ℕ = length w.goal.vars in
       let s : PureScoped k p = pure_grows n k p h.least given in
-      require_in In (fits w.goal x) _ _ _ (λ free.
-      (rest_in preds n (with_fact x p w.goal) h.least (with_fact_in preds k x p w.goal h.scoped.goal s),
-      (rest_in preds n (with_fact x (nope p) w.goal) h.least (with_fact_in preds k x (nope p) w.goal h.scoped.goal (not_pure preds k p s)), tt)))
+      require_in In (fits w.goal x) _ _ _ (λ free. (
+        rest_in preds n (with_fact x p w.goal) h.least (with_fact_in preds k x p w.goal h.scoped.goal s),
+        (rest_in preds n (with_fact x (nope p) w.goal) h.least (with_fact_in preds k x (nope p) w.goal h.scoped.goal (not_pure preds k p s)), tt),
+      ))
 
   -- ---- linear arithmetic, which closes the goal
 

@@ -12,7 +12,6 @@ use Rattle.pm_logic.proofs.Grows.{term_grows}
 use Rattle.pm_goal.specs.declared.goal.Goal.{Goal}
 use Rattle.pm_goal.specs.declared.work.Kind.{Kind}
 use Rattle.pm_goal.specs.declared.work.Kind.TheVariants.{Int, Spat}
-use Rattle.pm_goal.specs.declared.work.Held.{Held}
 use Rattle.pm_goal.specs.declared.work.Work.{Work}
 use Rattle.pm_goal.specs.declared.work.Lemma.{Lemma}
 use Rattle.pm_goal.specs.declared.work.Lemmas.{Lemmas}
@@ -21,18 +20,18 @@ use Rattle.pm_patterns.specs.declared.pattern.Spat.TheVariants as premise
 use Rattle.pm_classes.specs.Classes.{Parts, into_wand, into_forall, from_pure}
 use Rattle.pm_classes.specs.Persistence.{is_persistent}
 use Rattle.pm_classes.proofs.Scoped as entries
-use Rattle.pm_table.specs.Outcomes.{Outcome, one}
+use Rattle.pm_table.specs.Outcomes.{one}
 use Rattle.pm_table.specs.Limits.{resting}
 use Rattle.pm_table.specs.Works.{Named, hyp_named, is_listed, with_concl, without_spat, hold, work_of}
 use Rattle.pm_table.specs.Equality.{formula_eq}
 use Rattle.pm_table.specs.Basic.{is_truth, is_done}
 use Rattle.pm_table.specs.Framing.{frame}
-use Rattle.pm_table.specs.Terms.{held_as, lemma_named, Step, going_on, is_premise, both_kinds, framed, keeping, leaving, picked, picked_framed, by_pattern, lemma, with_term, with_spat, assert, premises_before, premises, premise_goal, premise_goals, apply, concluding, passing, frame_held, frame_named, frame_member}
-use Rattle.pm_table.specs.Scopes.{GoalScopedIn, IsGoalScoped, IsWorkScoped, AreLemmasScoped}
+use Rattle.pm_table.specs.Terms.{held_as, lemma_named, Step, is_premise, both_kinds, framed, keeping, leaving, picked, picked_framed, by_pattern, lemma, with_term, with_spat, assert, premises_before, premises, premise_goal, premise_goals, apply, concluding, passing, frame_held, frame_named, frame_member}
+use Rattle.pm_table.specs.Scopes.{GoalScopedIn, IsGoalScoped, AreLemmasScoped}
 use Rattle.pm_table.proofs.Keeping.{Everywhere, InOutcome}
 use Rattle.pm_table.proofs.Outcomes.{joined_in, chosen_in, require_in, require_plain_in, require_some_in, require_entry_in, all_spatial_in}
 use Rattle.pm_table.proofs.Scopes.{grown, opened}
-use Rattle.pm_table.proofs.Scoping.{OneIn, PartsIn, Inside, HandScoped, all_filter, one_chosen, hyp_named_in, concl_in, without_spat_in, held_then, with_hand_in, entry_in, named_in}
+use Rattle.pm_table.proofs.Scoping.{OneIn, PartsIn, Inside, all_filter, one_chosen, hyp_named_in, concl_in, without_spat_in, held_then, with_hand_in, entry_in, named_in}
 use Rattle.pm_table.proofs.ScopedHands.{HeldAsIn, held_as_in, parts_where}
 use Rattle.pm_table.proofs.ScopedGoals.{rest_in}
 use Rattle.pm_table.proofs.ScopedFrames.{frame_in}
@@ -119,17 +118,20 @@ module _ (preds : Preds) (n : ℕ) where
       (framed_in (picked_framed picks) (keeping (picked picks) s.premise s.work.goal) h.work.least (keeping_in preds k (picked picks) s.premise s.work.goal h.work.scoped.goal h.premise))
       (main_in Spat g s h.work.least (leaving_in preds k (picked picks) s.work.goal.concl s.work.goal h.work.scoped.goal h.work.scoped.goal.concl) refl h, tt))
   by_pattern_in (premise.Rest list) s h = let k : ℕ = length s.work.goal.vars in
-      all_spatial_in In s.work.goal list _
-      (rest_in preds n (leaving list s.premise s.work.goal) h.work.least (leaving_in preds k list s.premise s.work.goal h.work.scoped.goal h.premise),
-      (main_in Spat (keeping list s.work.goal.concl s.work.goal) s h.work.least (keeping_in preds k list s.work.goal.concl s.work.goal h.work.scoped.goal h.work.scoped.goal.concl) refl h, tt))
+      all_spatial_in In s.work.goal list _ (
+        rest_in preds n (leaving list s.premise s.work.goal) h.work.least (leaving_in preds k list s.premise s.work.goal h.work.scoped.goal h.premise),
+        (main_in Spat (keeping list s.work.goal.concl s.work.goal) s h.work.least (keeping_in preds k list s.work.goal.concl s.work.goal h.work.scoped.goal h.work.scoped.goal.concl) refl h, tt),
+      )
   by_pattern_in premise.Persistent s h = let k : ℕ = length s.work.goal.vars in
-      require_plain_in In (is_persistent s.premise) _ _ (λ e.
-      (rest_in preds n (with_concl s.premise s.work.goal) h.work.least (concl_in preds k s.premise s.work.goal h.work.scoped.goal h.premise),
-      (held_then preds n s.kind s.result s.work h.work h.result, tt)))
+      require_plain_in In (is_persistent s.premise) _ _ (λ e. (
+        rest_in preds n (with_concl s.premise s.work.goal) h.work.least (concl_in preds k s.premise s.work.goal h.work.scoped.goal h.premise),
+        (held_then preds n s.kind s.result s.work h.work h.result, tt),
+      ))
   by_pattern_in premise.Pure s h = let k : ℕ = length s.work.goal.vars in
-      require_entry_in In (from_pure s.premise) _ _ (λ p e.
-      (rest_in preds n (with_concl (Assert p) s.work.goal) h.work.least (concl_in preds k (Assert p) s.work.goal h.work.scoped.goal (entries.scoped.of_pure preds k s.premise p e h.premise)),
-      (held_then preds n s.kind s.result s.work h.work h.result, tt)))
+      require_entry_in In (from_pure s.premise) _ _ (λ p e. (
+        rest_in preds n (with_concl (Assert p) s.work.goal) h.work.least (concl_in preds k (Assert p) s.work.goal h.work.scoped.goal (entries.scoped.of_pure preds k s.premise p e h.premise)),
+        (held_then preds n s.kind s.result s.work h.work h.result, tt),
+      ))
   by_pattern_in premise.Done s h = require_plain_in In (is_done (keeping [] s.premise s.work.goal)) _ _ (λ e. (held_then preds n Spat s.result s.work h.work h.result, tt))
 
   pub with_spat_in : (p : S.Spat) (w : Work) → In w → InOutcome In (with_spat p w)

@@ -1,5 +1,5 @@
 -- Scope of goals and works, and of what is found in them.
-use Rattle.std.proofs.Common.{◌≡◌, ℕ, suc, ◌≤◌, Bool, true, false, cond, not, List, [], ◌∷◌, ◌++◌, map, filter, length, refl, sym, ap, subst, arith, Option, Some, None, option_map, bytes_eq, le_refl, le_trans}
+use Rattle.std.proofs.Common.{◌≡◌, ℕ, suc, ◌≤◌, Bool, true, false, cond, not, List, [], ◌∷◌, ◌++◌, map, filter, length, refl, ap, subst, arith, Option, Some, None, option_map, bytes_eq, le_refl}
 use Rattle.std.specs.List.{AllByRecursion}
 use Rattle.pm_logic.specs.declared.formula.Pure as P
 use Rattle.pm_logic.specs.declared.formula.Formula.{Formula}
@@ -19,14 +19,13 @@ use Rattle.pm_goal.specs.Find.{first_of_two}
 use Rattle.pm_classes.specs.Classes.{Parts}
 use Rattle.pm_table.specs.Outcomes.{Outcome, gives, refused, Action, require_entry, require_some}
 use Rattle.pm_table.specs.declared.place.Place.{Place}
-use Rattle.pm_table.specs.Limits.{work_at, limited}
 use Rattle.pm_table.specs.Occurrences.{shifted_pure}
 use Rattle.pm_table.specs.Works
 use Rattle.pm_table.specs.Works.{Named, Hand, hand_or, hand_of, hyp_named, fact_named, with_fact, with_int, with_spat, with_hyp, with_var, with_concl, without_named, without_spat, each_fact, each_hyp, each_held, holding, hold, work_of, with_last}
-use Rattle.pm_table.specs.Scopes.{GoalScopedIn, WorkScopedIn, IsGoalScoped, IsWorkScoped}
+use Rattle.pm_table.specs.Scopes.{GoalScopedIn, WorkScopedIn, IsWorkScoped}
 use Rattle.pm_table.proofs.Keeping.{Everywhere, InOutcome, Good}
 use Rattle.pm_table.proofs.Outcomes.{good, with_last_in, require_entry_in, require_some_in}
-use Rattle.pm_table.proofs.Scopes.{shifted, pure_shifted, of_fact, fact}
+use Rattle.pm_table.proofs.Scopes.{shifted, pure_shifted, fact}
 
 -- ---- lists
 

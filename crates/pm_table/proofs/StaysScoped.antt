@@ -1,5 +1,5 @@
 -- Steps keep goals scoped.
-use Rattle.std.proofs.Common.{◌≡◌, ℕ, ◌≤◌, Bool, true, false, List, [], ◌∷◌, length, arith}
+use Rattle.std.proofs.Common.{ℕ, ◌≤◌, true, List, [], ◌∷◌, length, arith}
 use Rattle.pm_logic.specs.declared.formula.Term.{Term}
 use Rattle.pm_logic.specs.declared.formula.Preds.{Preds}
 use Rattle.pm_logic.specs.Scope.{TermScoped, TermsScoped, PureScoped, Scoped}
@@ -22,9 +22,9 @@ use Rattle.pm_table.specs.Loeb.{loeb, unfold_call, fold_call}
 use Rattle.pm_table.specs.Linears.{linear, linear_with}
 use Rattle.pm_table.specs.Terms.{take, lend, lemma, with_term, with_spat, assert, apply, frame_held, frame_named, frame_member}
 use Rattle.pm_table.specs.Patterns.{opening, intro_one}
-use Rattle.pm_table.specs.Directives.{run_on, step}
+use Rattle.pm_table.specs.Directives.{run_on}
 use Rattle.pm_table.specs.Scopes.{IsGoalScoped, AreBodiesScoped, AreLemmasScoped, IsDirectiveScoped}
-use Rattle.pm_table.specs.Stepping.{Each, EachGoal, StepsStayScoped}
+use Rattle.pm_table.specs.Stepping.{Each, StepsStayScoped}
 use Rattle.pm_table.proofs.Keeping.{InOutcome, Good, rest_good}
 use Rattle.pm_table.proofs.Outcomes.{good, opening_in}
 use Rattle.pm_table.proofs.Acting.{Kept, ActionsKeep, Handed, run_in}

@@ -17,6 +17,7 @@ pub mod Linears
 pub mod Patterns
 pub mod Directives
 pub mod Scopes
+pub mod Parts
 pub mod Stepping
 pub mod Dealing
 pub mod Examples

@@ -94,7 +94,7 @@ refusing o = run_of 0 o
 -- the actions, in order; where there are none, the row
 abbrev pub run_actions : Row → List Action → Work → Run
 run_actions row [] work = refusing (refuse_plain row)
-run_actions row (a ∷ as) work = for_each (λ x. x) (a ∷ as) work
+run_actions row (a ∷ more) work = for_each (λ x. x) (a ∷ more) work
 
 -- `*`: universals, while there are some
 abbrev pub universals : Formula → List Action

@@ -1,6 +1,6 @@
 -- Which goals and works are scoped: their formulas name only variables that are there, and predicates of the table with as many
 -- arguments as they take.
-use Rattle.std.specs.Prelude.{◌≡◌, ℕ, length, slice_get, MatchOption}
+use Rattle.std.specs.Prelude.{ℕ, length, slice_get, MatchOption}
 use Rattle.std.specs.List.{AllByRecursion}
 use Rattle.pm_logic.specs.declared.formula.Preds.{Preds}
 use Rattle.pm_logic.specs.Scope.{TermScoped, TermsScoped, PureScoped, Scoped}

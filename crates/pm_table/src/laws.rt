@@ -1,6 +1,7 @@
 //! Laws of steps.
 
 ghost use Rattle.pm_table.specs.Dealing.{SplitsDeal, PremisesDeal};
+ghost use Rattle.pm_table.specs.Parts.{OnlyPartsAreGiven};
 ghost use Rattle.pm_table.specs.Stepping.{StepsStayWithinLimits, StepsKeepNamesApart, StepsStayScoped};
 
 /// A goal within the limits goes to goals within them, or the directive is refused.
@@ -17,6 +18,11 @@ pub fn steps_keep_names_apart()
 /// scoped in the goal's variables.
 pub fn steps_stay_scoped()
     ensures { StepsStayScoped }
+{}
+
+/// The actions that move, name, drop, choose and take apart give only parts of the formulas that were there.
+pub fn only_parts_are_given()
+    ensures { OnlyPartsAreGiven }
 {}
 
 /// `iSplitL` and `iSplitR` give each spatial hypothesis to exactly one goal.

@@ -1,5 +1,0 @@
-pub mod Acts
-pub mod Standing
-pub mod Built
-pub mod Groups
-pub mod Steps
