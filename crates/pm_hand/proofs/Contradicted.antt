@@ -1,5 +1,5 @@
 -- From a star to one of its parts, and what falsehood in hand answers.
-use Rattle.std.proofs.Common.{◌≡◌, ℕ, zero, suc, ◌+◌, ◌*◌, ◌<◌, ◌≤◌, ◌×◌, max, true, false, List, [], ◌∷◌, ◌++◌, length, remove, refl, sym, ◌∙◌, ap, ap₂, subst, arith, Option, Some, None}
+use Rattle.std.proofs.Common.{◌≡◌, ℕ, zero, suc, ◌+◌, ◌*◌, ◌<◌, ◌≤◌, max, true, false, List, [], ◌∷◌, ◌++◌, length, remove, refl, sym, ◌∙◌, ap, ap₂, subst, arith, Option, Some, None}
 use Rattle.std.specs.Prelude.{Result, Ok, Err}
 use Rattle.pm_logic.specs.declared.formula.Pure.TheVariants as pure
 use Rattle.pm_logic.specs.declared.formula.Formula.{Formula}
@@ -35,7 +35,7 @@ use Rattle.pm_action.specs.Meanings.{meaning, height, room, width}
 use Rattle.pm_action.specs.Acting.{Answers, Ends, IsActed, IsHanded, IsLast, last_place, plainly}
 use Rattle.pm_action.proofs.Heights.{star_height, concl_height, parts_nodes}
 use Rattle.pm_action.proofs.Hands.{with_last_is, part_last, last_within}
-use Rattle.pm_action.proofs.Moving.{few}
+use Rattle.pm_action.proofs.Moves.{few}
 use Rattle.pm_hand.specs.Changed.{IsFirst, FromStar}
 use Rattle.pm_hand.proofs.Relasts.{part_of_star}
 
@@ -144,8 +144,8 @@ absurd_refused w l f is not e =
     subst (λ o. Answers (all_nodes (work_formulas w)) w (limited o) (Err f)) (ap (λ b. require_plain b NotFalsehood closed) (sym not) ∙ sym (absurd_row w l is)) (rw e refl)
 
 pub absurd_given : (w : Work) (l : Held) (p : Tree) (r : Result (Parts Place) StepFault) → IsLast w l → table.is_falsehood l.formula ≡ true → IsActed (all_nodes (work_formulas w)) w [] p → Ends [] p r → Answers (all_nodes (work_formulas w)) w (limited (table.absurd_held w)) r
-absurd_given w l p r is yes acted ends =
-    subst (λ o. Answers (all_nodes (work_formulas w)) w (limited o) r) (ap (λ b. require_plain b NotFalsehood closed) (sym yes) ∙ sym (absurd_row w l is)) (ends (all_nodes (work_formulas w)) w acted)
+absurd_given w l p r is holds acted ends =
+    subst (λ o. Answers (all_nodes (work_formulas w)) w (limited o) r) (ap (λ b. require_plain b NotFalsehood closed) (sym holds) ∙ sym (absurd_row w l is)) (ends (all_nodes (work_formulas w)) w acted)
 
 -- the test
 pub is_false : (f : Formula) → table.is_falsehood f ≡ true → f ≡ Assert pure.False

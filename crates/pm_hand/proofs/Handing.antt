@@ -1,5 +1,5 @@
 -- What comes into hand, and the stars on the way.
-use Rattle.std.proofs.Common.{◌≡◌, ℕ, zero, suc, ◌+◌, ◌-◌, ◌*◌, ◌<◌, ◌≤◌, ◌×◌, max, List, [], ◌∷◌, ◌++◌, length, length-append, map, insert, remove, set, inl, inr, refl, sym, ◌∙◌, ap, ap₂, subst, arith, Option, Some, None, le_refl}
+use Rattle.std.proofs.Common.{◌≡◌, ℕ, zero, suc, ◌+◌, ◌-◌, ◌*◌, ◌<◌, ◌≤◌, max, List, [], ◌∷◌, ◌++◌, length, length-append, map, insert, remove, set, inl, inr, refl, sym, ◌∙◌, ap, ap₂, subst, arith, Option, Some, None, le_refl}
 use Rattle.std.specs.Prelude.{Result, Ok, Err}
 use Rattle.std.specs.List.{AllByRecursion}
 use Rattle.std.proofs.lemmas.List.{map-append}
@@ -40,7 +40,7 @@ use Rattle.pm_action.specs.Acting.{IsHanded, MovesTo}
 use Rattle.pm_action.proofs.Sums.{depth_append}
 use Rattle.pm_action.proofs.Heights.{star_height, parts_nodes, parts_are}
 use Rattle.pm_action.proofs.Hands.{star_is}
-use Rattle.pm_action.proofs.Moving.{few}
+use Rattle.pm_action.proofs.Moves.{few}
 use Rattle.pm_hand.specs.Changed.{less, Brings, GivesOne}
 use Rattle.pm_hand.specs.Looking.{IsAt}
 use Rattle.pm_hand.proofs.Known.{inserted}

@@ -1,5 +1,5 @@
 -- What making a fact of the last in hand answers.
-use Rattle.std.proofs.Common.{◌≡◌, ℕ, zero, suc, ◌+◌, ◌*◌, ◌<◌, ◌≤◌, ◌×◌, max, true, false, List, [], ◌∷◌, ◌++◌, length, length-append, map, insert, set, inl, inr, refl, sym, ◌∙◌, ap, ap₂, subst, arith, Option, Some, None}
+use Rattle.std.proofs.Common.{◌≡◌, ℕ, zero, suc, ◌+◌, ◌*◌, ◌<◌, ◌≤◌, max, true, false, List, [], ◌∷◌, ◌++◌, length, length-append, map, insert, set, inl, inr, refl, sym, ◌∙◌, ap, ap₂, subst, arith, Option, Some, None}
 use Rattle.std.specs.Prelude.{Result, Ok, Err}
 use Rattle.std.specs.List.{AllByRecursion}
 use Rattle.pm_logic.specs.declared.formula.Pure.{Pure}
@@ -33,6 +33,7 @@ use Rattle.pm_star.proofs.Scoping.{star_scoped, scoped_star, depth_box}
 use Rattle.pm_star.proofs.Places.{gains_fact}
 use Rattle.pm_classes.specs.declared.entry.OnePure.{OnePure}
 use Rattle.pm_classes.specs.Classes.{into_pure}
+use Rattle.pm_classes.proofs.Table.{of_pers}
 use Rattle.pm_classes.specs.Entries.{IntoPureAnswer, PureAnswers, into_pure_says}
 use Rattle.pm_table.specs.declared.place.Place.{Place}
 use Rattle.pm_table.specs.declared.place.Place.TheVariants.{Current as current}
@@ -43,10 +44,10 @@ use Rattle.pm_table.specs.Destructs as table
 use Rattle.pm_action.specs.Meanings.{height, room, width}
 use Rattle.pm_action.specs.Acting.{Answers, Refuses, IsLast, MovesTo, all_but_last, last_place, plainly}
 use Rattle.pm_action.proofs.Sums.{depth_append}
-use Rattle.pm_action.proofs.Contexts.{hand_is}
+use Rattle.pm_action.proofs.Filtered.{hand_is}
 use Rattle.pm_action.proofs.Heights.{star_height, parts_nodes, parts_are}
 use Rattle.pm_action.proofs.Hands.{with_last_is, held_is, without_last, part_last, last_within, star_is}
-use Rattle.pm_action.proofs.Moving.{few}
+use Rattle.pm_action.proofs.Moves.{few}
 use Rattle.pm_hand.specs.Changed.{relast, known, last_says, GivesOne, BecomesOne, LeadsBy}
 use Rattle.pm_hand.proofs.Answered.{refuses}
 use Rattle.pm_hand.proofs.Lasts.{goal_count}
@@ -183,8 +184,7 @@ pure_row w l name is = with_last_is w (λ hand. require_entry (into_pure hand.la
 
 -- the box is passed
 under_box : (k : Kind) (f : Formula) → into_pure (of_kind k f) ≡ into_pure f
-unfolding into_pure
-under_box Int f = refl
+under_box Int f = of_pers f
 under_box Spat f = refl
 
 abbrev Entry : Work → Held → Option Pure → Option OnePure → Type 0

@@ -1,5 +1,5 @@
 -- What a name names in a goal, from its place in a context.
-use Rattle.std.proofs.Common.{◌≡◌, ℕ, zero, suc, ◌+◌, ◌<◌, ◌≤◌, ◌×◌, Bool, true, false, cond, List, [], ◌∷◌, length, length-append, map, refl, sym, ◌∙◌, ap, subst, arith, Option, Some, None, position, bytes_eq, remove, slice_get}
+use Rattle.std.proofs.Common.{◌≡◌, ℕ, zero, suc, ◌+◌, ◌<◌, ◌≤◌, Bool, true, false, cond, List, [], ◌∷◌, length, length-append, map, refl, sym, ◌∙◌, ap, subst, arith, Option, Some, None, position, bytes_eq, remove, slice_get}
 use Rattle.std.specs.Prelude.{option_map}
 use Rattle.pm_logic.specs.declared.formula.Pure.{Pure}
 use Rattle.pm_logic.specs.declared.formula.Formula.{Formula}
@@ -29,19 +29,19 @@ of_fact f = f.name
 
 hyp_first : (name : Named) (hs : List Hyp) → hyp_named name hs ≡ option_map (λ (h : Hyp). h.formula) (first_named of_hyp name hs)
 hyp_first name [] = refl
-hyp_first name (h ∷ hs) = by (bytes_eq name h.name)
+hyp_first name (h ∷ hs) = by (bytes_eq name h.name) (hyp_first name hs)
   where
-    by : (b : Bool) → cond b (Some h.formula) (hyp_named name hs) ≡ option_map (λ (g : Hyp). g.formula) (cond b (Some h) (first_named of_hyp name hs))
-    by true = refl
-    by false = hyp_first name hs
+    by : (b : Bool) → hyp_named name hs ≡ option_map (λ (g : Hyp). g.formula) (first_named of_hyp name hs) → cond b (Some h.formula) (hyp_named name hs) ≡ option_map (λ (g : Hyp). g.formula) (cond b (Some h) (first_named of_hyp name hs))
+    by true rest = refl
+    by false rest = rest
 
 fact_first : (name : Named) (fs : List Fact) → fact_named name fs ≡ option_map (λ (f : Fact). f.pure) (first_named of_fact name fs)
 fact_first name [] = refl
-fact_first name (f ∷ fs) = by (bytes_eq name f.name)
+fact_first name (f ∷ fs) = by (bytes_eq name f.name) (fact_first name fs)
   where
-    by : (b : Bool) → cond b (Some f.pure) (fact_named name fs) ≡ option_map (λ (g : Fact). g.pure) (cond b (Some f) (first_named of_fact name fs))
-    by true = refl
-    by false = fact_first name fs
+    by : (b : Bool) → fact_named name fs ≡ option_map (λ (g : Fact). g.pure) (first_named of_fact name fs) → cond b (Some f.pure) (fact_named name fs) ≡ option_map (λ (g : Fact). g.pure) (cond b (Some f) (first_named of_fact name fs))
+    by true rest = refl
+    by false rest = rest
 
 no_hyp : (name : Named) (hs : List Hyp) → times name (hyp_names hs) ≡ 0 → hyp_named name hs ≡ None
 no_hyp name hs e = hyp_first name hs ∙ ap (option_map (λ (h : Hyp). h.formula)) (zero_named of_hyp name hs e)
@@ -150,26 +150,26 @@ some_not_none x B e = absurd cc
 
 named_counted : (name : Named) (hs : List Hyp) → hyp_named name hs ≡ None → times name (hyp_names hs) ≡ 0
 named_counted name [] e = refl
-named_counted name (h ∷ hs) e = by (bytes_eq name h.name) e
+named_counted name (h ∷ hs) e = by (bytes_eq name h.name) e (named_counted name hs)
   where
-    by : (b : Bool) → cond b (Some h.formula) (hyp_named name hs) ≡ None → cond b (suc (times name (hyp_names hs))) (times name (hyp_names hs)) ≡ 0
-    by true bad = absurd cc
-    by false none = named_counted name hs none
+    by : (b : Bool) → cond b (Some h.formula) (hyp_named name hs) ≡ None → (hyp_named name hs ≡ None → times name (hyp_names hs) ≡ 0) → cond b (suc (times name (hyp_names hs))) (times name (hyp_names hs)) ≡ 0
+    by true bad rest = absurd cc
+    by false none rest = rest none
 
 -- without a spatial one of the name, where there is none
 pub no_spat : (goal : Goal) (name : Named) → hyp_named name goal.spats ≡ None → without_spat name goal ≡ goal
 no_spat goal name e = ap (λ hs. record goal { spats = hs }) (zero_others of_hyp name goal.spats (named_counted name goal.spats e))
 
+fact_counted : (name : Named) (fs : List Fact) → fact_named name fs ≡ None → times name (fact_names fs) ≡ 0
+fact_counted name [] e = refl
+fact_counted name (f ∷ fs) e = by (bytes_eq name f.name) e (fact_counted name fs)
+  where
+    by : (b : Bool) → cond b (Some f.pure) (fact_named name fs) ≡ None → (fact_named name fs ≡ None → times name (fact_names fs) ≡ 0) → cond b (suc (times name (fact_names fs))) (times name (fact_names fs)) ≡ 0
+    by true bad rest = absurd cc
+    by false none rest = rest none
+
 -- without the spatial one
 pub only_spat : (goal : Goal) (name : Named) → hyp_named name goal.ints ≡ None → fact_named name goal.pures ≡ None → without_spat name goal ≡ without_named name goal
 only_spat goal name i p =
     sym (ap (λ hs. record goal { ints = hs; spats = hyps_but name goal.spats; pures = facts_but name goal.pures }) (zero_others of_hyp name goal.ints (named_counted name goal.ints i))
-    ∙ ap (λ fs. record goal { spats = hyps_but name goal.spats; pures = fs }) (zero_others of_fact name goal.pures (fact_counted goal.pures p)))
-  where
-    fact_counted : (fs : List Fact) → fact_named name fs ≡ None → times name (fact_names fs) ≡ 0
-    fact_counted [] e = refl
-    fact_counted (f ∷ fs) e = by (bytes_eq name f.name) e
-      where
-        by : (b : Bool) → cond b (Some f.pure) (fact_named name fs) ≡ None → cond b (suc (times name (fact_names fs))) (times name (fact_names fs)) ≡ 0
-        by true bad = absurd cc
-        by false none = fact_counted fs none
+    ∙ ap (λ fs. record goal { spats = hyps_but name goal.spats; pures = fs }) (zero_others of_fact name goal.pures (fact_counted name goal.pures p)))

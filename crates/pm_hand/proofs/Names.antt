@@ -17,7 +17,7 @@ use Rattle.pm_table.specs.Works.{Named, fits, with_hyp, work_of}
 use Rattle.pm_table.specs.Destructs as table
 use Rattle.pm_action.specs.Acting.{Answers, Refuses, IsLast, MovesTo, all_but_last}
 use Rattle.pm_action.proofs.Hands.{with_last_is}
-use Rattle.pm_action.proofs.Moving.{moves_answer}
+use Rattle.pm_action.proofs.Moves.{moves_answer}
 use Rattle.pm_hand.specs.Changed.{named, GivesOne}
 use Rattle.pm_hand.proofs.Answered.{refuses}
 

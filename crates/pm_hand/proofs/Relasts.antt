@@ -1,5 +1,5 @@
 -- Works whose last in hand is gone, or is another formula.
-use Rattle.std.proofs.Common.{◌≡◌, ℕ, zero, suc, ◌+◌, ◌-◌, ◌*◌, ◌<◌, ◌≤◌, ◌×◌, max, List, [], ◌∷◌, ◌++◌, length, length-append, map, take, set, refl, sym, ◌∙◌, ap, ap₂, subst, arith, Option, Some, None, slice_get, le_refl}
+use Rattle.std.proofs.Common.{◌≡◌, ℕ, zero, suc, ◌+◌, ◌-◌, ◌*◌, ◌<◌, ◌≤◌, max, List, [], ◌∷◌, ◌++◌, length, length-append, map, take, set, refl, sym, ◌∙◌, ap, ap₂, subst, arith, Option, Some, None, slice_get, le_refl}
 use Rattle.std.specs.Prelude.{Result}
 use Rattle.std.specs.List.{AllByRecursion}
 use Rattle.std.proofs.lemmas.List.{length-map, append-nil}
@@ -31,9 +31,9 @@ use Rattle.pm_table.specs.Destructs as table
 use Rattle.pm_action.specs.Meanings.{height, room, width}
 use Rattle.pm_action.specs.Acting.{Answers, IsLast, MovesTo, all_but_last, last_place}
 use Rattle.pm_action.proofs.Sums.{nodes_append, depth_append}
-use Rattle.pm_action.proofs.Contexts.{in_hand}
+use Rattle.pm_action.proofs.Filtered.{in_hand}
 use Rattle.pm_action.proofs.Hands.{with_last_is, held_is, without_last, part_last, star_is}
-use Rattle.pm_action.proofs.Moving.{moves_by_answer}
+use Rattle.pm_action.proofs.Moves.{moves_by_answer}
 use Rattle.pm_hand.specs.Changed.{dropped, relast, last_says, GivesOne, BecomesOne}
 use Rattle.pm_hand.proofs.Names.{moved_gives}
 

@@ -1,6 +1,6 @@
 //! Derived rules of these actions.
 
-ghost use Rattle.std.specs.Prelude.{◌≡◌, ◌×◌, ◌+◌, [], ◌∷◌, IfOk};
+ghost use Rattle.std.specs.Prelude.{◌≡◌, ◌+◌, [], ◌∷◌, IfOk};
 ghost use Rattle.pm_logic.specs.declared.formula.Formula.{Formula as Tree};
 ghost use Rattle.pm_logic.specs.declared.formula.Formula.TheVariants.{Pure as Fact};
 ghost use Rattle.pm_logic.specs.declared.formula.Formula.TheViews as view;
