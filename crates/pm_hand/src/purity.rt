@@ -1,7 +1,7 @@
 //! What is last in hand becomes a fact.
 
 ghost use Rattle.std.specs.Prelude.{◌≡◌, ◌<◌, IfOk, true, length};
-ghost use Rattle.pm_logic.specs.declared.formula.Formula.TheVariants.{Pure as Fact};
+ghost use Rattle.pm_logic.specs.declared.formula.Formula.TheVariants.{Pure as Assert};
 ghost use Rattle.pm_goal.specs.declared.work.Kind.TheVariants as kind;
 ghost use Rattle.pm_goal.specs.Left.{left_of_work, of_kind};
 ghost use Rattle.pm_proof.specs.Trees.{conclusion};
@@ -52,7 +52,7 @@ fn known(alloc: Global, work: &Work, name: &Name, pure: &Pure) -> Result<Work, M
 fn to_facts(alloc: Global, work: &Work, name: &Name, pure: &Pure) -> Result<Proof, Memory>
     requires handed { IsHanded work.now }
     requires some { 0 < length work.now.held }
-    ensures { IfOk result (λ p. Moves (length work.now.goal.vars) (length (work_parts work.now)) (left_of_work (relast work.now kind.Spat (Fact pure.now))) (left_of_work (known work.now name.now pure.now)) p) }
+    ensures { IfOk result (λ p. Moves (length work.now.goal.vars) (length (work_parts work.now)) (left_of_work (relast work.now kind.Spat (Assert pure.now))) (left_of_work (known work.now name.now pure.now)) p) }
 {
     let fact = Formula::Pure(copy_pure(alloc, pure)?);
     let middle = relast(alloc, work, Kind::Spat, fact)?;
@@ -73,7 +73,7 @@ fn moved(
     requires handed { IsHanded work.now }
     requires some { 0 < length work.now.held }
     requires last { IsLast work.now held.now }
-    requires says { conclusion by ≡ last_says work.now held.now kind.Spat (Fact pure.now) }
+    requires says { conclusion by ≡ last_says work.now held.now kind.Spat (Assert pure.now) }
     ensures { IfOk result (λ p. LeadsBy work.now (known work.now name.now pure.now) by p) }
 {
     let fact = Formula::Pure(copy_pure(alloc, pure)?);
@@ -95,7 +95,7 @@ fn make_known(
     requires some { 0 < length work.now.held }
     requires last { IsLast work.now held.now }
     requires free { fits work.now.goal name.now ≡ true }
-    requires says { conclusion by ≡ last_says work.now held.now kind.Spat (Fact pure.now) }
+    requires says { conclusion by ≡ last_says work.now held.now kind.Spat (Assert pure.now) }
     ensures { BecomesOne work.now (known work.now name.now pure.now) by result }
 {
     let proof = moved(alloc, work, held, name, pure, by)?;
