@@ -15,7 +15,7 @@ use Rattle.pm_star.proofs.Places.{loses_held, held_at}
 use Rattle.pm_table.specs.Outcomes.{Outcome}
 use Rattle.pm_table.specs.Works.{Hand, hand_of, with_last, acting_on, work_of}
 use Rattle.pm_action.specs.Acting.{IsLast, all_but_last, last_place}
-use Rattle.pm_action.proofs.Contexts.{in_hand}
+use Rattle.pm_action.proofs.Filtered.{in_hand}
 
 -- an action on the last in hand
 pub with_last_is : (w : Work) (act : Hand → Outcome) (l : Held) → IsLast w l → with_last w act ≡ act (record { others = all_but_last w.held; last = l })
@@ -33,7 +33,7 @@ get_end [] l = refl
 get_end (h ∷ hs) l = get_end hs l
 
 module _ (w : Work) (l : Held) (is : IsLast w l) where
-  others : List Held
+  abbrev pub others : List Held
   others = all_but_last w.held
 
   -- without it

@@ -37,7 +37,7 @@ held_within d (h ∷ hs) le = (omega (arith, le), held_within d hs (omega (arith
 
 -- the deepest formula of a work
 module _ (w : Work) where
-  deepest : ℕ
+  abbrev pub deepest : ℕ
   deepest = greatest_depth (work_formulas w)
 
   goal_deepest : greatest_depth (formulas w.goal) ≤ deepest

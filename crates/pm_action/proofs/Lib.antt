@@ -1,6 +1,7 @@
 pub mod Sums
 pub mod Heights
 pub mod Limiting
-pub mod Moving
-pub mod Contexts
+pub mod Moves
+pub mod Filtered
 pub mod Hands
+pub mod Fresh

@@ -28,6 +28,6 @@ module _ (fs : List Formula) (i : ℕ) (f : Formula) (some : 0 < i) (within : i 
   pub more_depth : greatest_depth (drop (i - 1) fs) ≡ max (depth_of f) (greatest_depth (drop i fs))
   more_depth = ap greatest_depth before
 
-pub none_left : (fs : List Formula) → drop (length fs) fs ≡ []
+pub none_left : {A : Type 0} (fs : List A) → drop (length fs) fs ≡ []
 none_left [] = refl
 none_left (f ∷ fs) = none_left fs

@@ -36,9 +36,12 @@ pub fn others(alloc: Global, work: &Work) -> Result<List<Held>, Memory>
     ensures { IfOk result (λ hs. hs ≡ all_but_last work.now.held) }
 {
     let held = work.held.as_slice();
+    let count = held.len() - 1;
     let mut out = List::new(alloc);
-    for h in &held[..held.len() - 1] {
-        out.push(copy_held(alloc, h)?)?;
+    let mut i = 0;
+    while i < count {
+        out.push(copy_held(alloc, &held[i])?)?;
+        i += 1;
     }
     Ok(out)
 }

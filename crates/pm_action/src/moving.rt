@@ -17,6 +17,7 @@ use pm_table::Place;
 use std::alloc::Global;
 
 /// What the goal means, as a hole. The error is want of memory.
+#[tactic(auto, unfolding(pm_goal::specs::Left::star_onto))]
 pub fn wanted_of_goal(alloc: Global, goal: &Goal) -> Result<Proof, Memory>
     requires { length goal.now.vars < 2 ^ 32 }
     ensures { IfOk result (λ p. p ≡ Hole (meaning (resting goal.now))) }

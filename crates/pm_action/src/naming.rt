@@ -1,8 +1,9 @@
 //! Names for new things.
 
-ghost use Rattle.std.specs.Prelude.{◌≡◌, IfOk};
+ghost use Rattle.std.specs.Prelude.{◌≡◌, IfOk, is_some};
 ghost use Rattle.std.specs.List.{list_all};
 ghost use Rattle.pm_tokens.specs.Characters.{is_digit};
+ghost use Rattle.pm_goal.specs.Find.{find_of};
 ghost use Rattle.pm_goal.specs.Fresh.{numbered};
 ghost use Rattle.pm_table.specs.Works as works;
 ghost use Rattle.pm_action.specs.Naming.{IsFindable};
@@ -32,7 +33,15 @@ pub fn is_free(goal: &Goal, name: &Name) -> bool
     requires { IsFindable goal.now }
     ensures { result ≡ works.fits goal.now name.now }
 {
-    !(find(goal, name).is_some() || is_numbered(name.bytes()))
+    !(is_used(goal, name) || is_numbered(name.bytes()))
+}
+
+/// Whether something in the goal has the name.
+fn is_used(goal: &Goal, name: &Name) -> bool
+    requires { IsFindable goal.now }
+    ensures { result ≡ is_some (find_of goal.now name.now) }
+{
+    find(goal, name).is_some()
 }
 
 /// `_H` and a number.
@@ -55,7 +64,7 @@ pub fn fresh_name(alloc: Global, goal: &Goal) -> Result<Name, Memory>
     let mut n: u64 = 1;
     while n <= names {
         let name = numbered(alloc, n)?;
-        if find(goal, &name).is_none() {
+        if !is_used(goal, &name) {
             return Ok(name);
         }
         n += 1;

@@ -1,6 +1,6 @@
 use Rattle.std.proofs.Common.{◌-◌}
 use Rattle.pm_goal.specs.declared.goal.Fact.{Fact}
-use Rattle.pm_action.proofs.Contexts.{IsFiltered}
+use Rattle.pm_action.proofs.Filtered.{IsFiltered}
 use Rattle.pm_action.proofs.contexts.facts_but.Given as goal
 
 abbrev pub invariant-loop-next : goal.invariant-loop-next

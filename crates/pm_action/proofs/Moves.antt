@@ -4,6 +4,7 @@ use Rattle.std.specs.Prelude.{Result}
 use Rattle.std.specs.List.{AllByRecursion}
 use Rattle.pm_logic.specs.declared.formula.Formula.{Formula}
 use Rattle.pm_logic.specs.declared.formula.Preds.{Preds}
+use Rattle.pm_logic.specs.Scope.{Scoped}
 use Rattle.pm_logic.specs.Size.{depth_of}
 use Rattle.pm_goal.specs.declared.work.Work.{Work}
 use Rattle.pm_goal.specs.Left.{left_of_work}
@@ -43,15 +44,11 @@ meets : (k : ℕ) (l m r : Formula) → ScopedWhere (entail k l r) (entail k m r
 meets k l m r preds e hs = (e.0, hs.0.0)
 
 -- few rules, as a square of the nodes
+product : (a b : ℕ) → suc a * b ≡ b + a * b
+product a b = omega arith
+
 pub few : (s n : ℕ) → n ≤ 1000 * suc s → n ≤ rules_within s
-few s n le =
-    let square : suc s ≤ suc s * suc s = grows s (suc s) in
-    omega (arith, le, square)
-  where
-    grows : (a b : ℕ) → b ≤ suc a * b
-    grows a b = omega (arith, product a b)
-    product : (a b : ℕ) → suc a * b ≡ b + a * b
-    product a b = omega arith
+few s n le = omega (arith, le, product s (suc s))
 
 pub moved_to : (w new : Work) (t wanted p : Tree) (r : Result (Parts Place) StepFault) → length new.goal.vars ≡ length w.goal.vars → new.goal.concl ≡ w.goal.concl → conclusion t ≡ entail (length w.goal.vars) (left_of_work w) (left_of_work new) → wanted ≡ Hole (meaning new) → ChainProves t wanted p → Ends (current [] new ∷ []) p r → MovesTo w new t r
 moved_to w new t wanted p r vars concl moved is chain ends s n fit known =
@@ -60,16 +57,11 @@ moved_to w new t wanted p r vars concl moved is chain ends s n fit known =
     let k1 = width w in
     let hole1 : Proves Every (meaning new) (meaning new ∷ []) 0 d k1 (Hole (meaning new)) = weaker Every (meaning new) (meaning new ∷ []) 0 (height new + 16) (length new.goal.vars) 0 d k1 (Hole (meaning new)) (omega arith) (omega arith) (omega (arith, vars)) (hole_proves new) in
     let hole2 : Proves Every (conclusion wanted) (meaning new ∷ []) 0 d k1 wanted = rw is hole1 in
-    let over : across t wanted ≡ meaning w = rw is (rw moved (ap (λ c. entail k (left_of_work w) c) concl)) in
-    let scope : ScopedWhere (across t wanted) (meaning new ∷ []) (conclusion t) = λ preds e hs. rw moved (e0 preds (subst (EntailScoped preds) over e), hs0 preds hs.0) in
+    let over : across t wanted ≡ meaning w = ap (λ x. across t x) is ∙ (ap (λ (e : Entail). entail e.vars e.left new.goal.concl) moved ∙ ap (λ c. entail k (left_of_work w) c) concl) in
+    let scope : ScopedWhere (across t wanted) (meaning new ∷ []) (conclusion t) = λ preds e hs. let whole : EntailScoped preds (meaning w) = subst (EntailScoped preds) over e in let new_left : Scoped preds k (left_of_work new) = subst (λ j. Scoped preds j (left_of_work new)) vars hs.0.0 in rw moved (whole.0, new_left) in
     let all : Proves Every (across t wanted) (meaning new ∷ []) (n + 0 + 1) d k1 p = chain Every [] (meaning new ∷ []) n 0 d k1 known hole2 scope in
     let acted : IsActed s w (current [] new ∷ []) p = weaker Every (meaning w) (meaning new ∷ []) (n + 0 + 1) d k1 (rules_within s) d k1 p (omega (arith, fit)) (omega arith) (omega arith) (subst (λ e. Proves Every e (meaning new ∷ []) (n + 0 + 1) d k1 p) over all) in
     ends s w acted
-  where
-    e0 : (preds : Preds) → EntailScoped preds (meaning w) → _
-    e0 preds e = e.0
-    hs0 : (preds : Preds) → EntailScoped preds (meaning new) → _
-    hs0 preds e = rw (sym vars) e.0
 
 pub stays_as : (w new : Work) (p q : Tree) (r : Result (Parts Place) StepFault) → meaning new ≡ meaning w → p ≡ Hole (meaning new) → Ends (current [] new ∷ []) p r → StaysAs w new r
 stays_as w new p q r same is ends s =

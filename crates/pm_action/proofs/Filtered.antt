@@ -98,7 +98,7 @@ module _ {A : Type 0} (name_of : A → Named) (name : Named) where
   zero_before : (x : Named) (xs : List A) (i : ℕ) (y : A) → slice_get xs i ≡ Some y → name_of y ≡ x → times x (all_names xs) ≤ 1 → times x (all_names (take i xs)) ≡ 0
   zero_before x [] i y at is most = absurd cc
   zero_before x (z ∷ xs) zero y at is most = refl
-  zero_before x (z ∷ xs) (suc i) y at is most = split (bytes_eq x (name_of z)) refl
+  zero_before x (z ∷ xs) (suc i) y at is most = split (bytes_eq x (name_of z)) refl (λ m. zero_before x xs i y at is m)
     where
       found : (xs : List A) (i : ℕ) → slice_get xs i ≡ Some y → 1 ≤ times x (all_names xs)
       found [] i at = absurd cc
@@ -108,14 +108,33 @@ module _ {A : Type 0} (name_of : A → Named) (name : Named) where
           least : (b : Bool) (n : ℕ) → 1 ≤ n → 1 ≤ cond b (suc n) n
           least true n le = omega arith
           least false n le = le
-      split : (b : Bool) → bytes_eq x (name_of z) ≡ b → times x (all_names (take (suc i) (z ∷ xs))) ≡ 0
-      split true e = absurd (let m : suc (times x (all_names xs)) ≤ 1 = subst (λ b. cond b (suc (times x (all_names xs))) (times x (all_names xs)) ≤ 1) e most in omega (arith, m, found xs i at))
-      split false e = let m : times x (all_names xs) ≤ 1 = subst (λ b. cond b (suc (times x (all_names xs))) (times x (all_names xs)) ≤ 1) e most in rw e (zero_before x xs i y at is m)
+      split : (b : Bool) → bytes_eq x (name_of z) ≡ b → (times x (all_names xs) ≤ 1 → times x (all_names (take i xs)) ≡ 0) → times x (all_names (take (suc i) (z ∷ xs))) ≡ 0
+      split true e rest = absurd (let m : suc (times x (all_names xs)) ≤ 1 = subst (λ b. cond b (suc (times x (all_names xs))) (times x (all_names xs)) ≤ 1) e most in omega (arith, m, found xs i at))
+      split false e rest = let m : times x (all_names xs) ≤ 1 = subst (λ b. cond b (suc (times x (all_names xs))) (times x (all_names xs)) ≤ 1) e most in rw e (rest m)
 
   pub not_before : (list : List A) (i : ℕ) (x : A) (out : List A) → slice_get list i ≡ Some x → ((n : Named) → times n (all_names list) ≤ 1) → IsFiltered list i out → position (λ y. bytes_eq (name_of x) (name_of y)) out ≡ None
   not_before list i x out at apart f =
       subst (λ ys. position (λ y. bytes_eq (name_of x) (name_of y)) ys ≡ None) (sym f.is)
       (zero_position (name_of x) (filter test (take i list)) (zero_filter (name_of x) (take i list) (zero_before (name_of x) list i x at refl (apart (name_of x)))))
+
+-- ---- a list copied item by item
+
+pub record IsCopied {A : Type 0} (list : List A) (i : ℕ) (out : List A) : Type 0 where
+  pub within : i ≤ length list
+  pub is : out ≡ take i list
+
+take_more : {A : Type 0} (xs : List A) (i : ℕ) (x : A) → i < length xs → x ≡ get_or xs i x → take (suc i) xs ≡ take i xs ++ x ∷ []
+take_more [] i x lt at = absurd (omega (arith, lt))
+take_more (y ∷ xs) zero x lt at = ap (λ z. z ∷ []) (sym at)
+take_more (y ∷ xs) (suc i) x lt at = ap (λ zs. y ∷ zs) (take_more xs i x (omega (arith, lt)) at)
+
+pub copied_none : {A : Type 0} (list : List A) → IsCopied list 0 []
+copied_none list = record { within = omega arith; is = refl }
+
+pub copied_more : {A : Type 0} (list : List A) (i j : ℕ) (x y : A) (out now : List A) → j ≡ i + 1 → i < length list → x ≡ get_or list i x → y ≡ x → IsCopied list i out → now ≡ out ++ y ∷ [] → IsCopied list j now
+copied_more list i j x y out now next lt at same c e =
+    let j_is : suc i ≡ j = omega (arith, next) in
+    subst (λ n. IsCopied list n now) j_is (record { within = omega (arith, lt); is = e ∙ (ap₂ (λ xs z. xs ++ z ∷ []) c.is same ∙ sym (take_more list i x lt at)) })
 
 -- ---- what is last in hand
 
@@ -123,10 +142,14 @@ hand_append : (hs : List Held) (h : Held) → hand_of (hs ++ h ∷ []) ≡ Some 
 hand_append [] h = refl
 hand_append (g ∷ hs) h = ap (hand_or g) (hand_append hs h)
 
+split_at : (hs : List Held) (i : ℕ) (h : Held) → suc i ≡ length hs → h ≡ get_or hs i h → hs ≡ take i hs ++ h ∷ []
+split_at [] i h is at = absurd (omega (arith, is))
+split_at (g ∷ []) zero h is at = ap (λ x. x ∷ []) (sym at)
+split_at (g ∷ g1 ∷ hs) zero h is at = absurd (omega (arith, is))
+split_at (g ∷ hs) (suc i) h is at = ap (λ xs. g ∷ xs) (split_at hs i h (omega (arith, is)) at)
+
 split_last : (hs : List Held) (h : Held) → 0 < length hs → h ≡ get_or hs (length hs - 1) h → hs ≡ all_but_last hs ++ h ∷ []
-split_last [] h some at = absurd (omega (arith, some))
-split_last (g ∷ []) h some at = ap (λ x. x ∷ []) (sym at)
-split_last (g ∷ g1 ∷ hs) h some at = ap (λ xs. g ∷ xs) (split_last (g1 ∷ hs) h (omega arith) at)
+split_last hs h some at = split_at hs (length hs - 1) h (omega (arith, some)) at
 
 pub last_is : (hs : List Held) (h : Held) → 0 < length hs → h ≡ get_or hs (length hs - 1) h → hand_of hs ≡ Some (record { others = all_but_last hs; last = h })
 last_is hs h some at = ap hand_of (split_last hs h some at) ∙ hand_append (all_but_last hs) h
@@ -136,27 +159,27 @@ pub hand_is : (hs others : List Held) (h : Held) → hs ≡ others ++ h ∷ [] �
 hand_is hs others h e = ap hand_of e ∙ hand_append others h
 
 -- what is in hand, taken apart
+same_hand : (x y : Hand) → Some x ≡ Some y → x ≡ y
+same_hand x y e = cc
+
+some_hand : (g : Held) (o : Option Hand) → hand_or g o ≡ None → ⊥
+some_hand g None e = absurd cc
+some_hand g (Some x) e = absurd cc
+
+abbrev Behind : List Held → Option Hand → Type 0
+Behind hs o = (x : Hand) → o ≡ Some x → hs ≡ x.others ++ x.last ∷ []
+
+one_hand : (g : Held) (hand : Hand) → hand_of (g ∷ []) ≡ Some hand → (g ∷ []) ≡ hand.others ++ hand.last ∷ []
+one_hand g hand e = ap (λ (x : Hand). x.others ++ x.last ∷ []) (same_hand (record { others = []; last = g }) hand e)
+
+more_hands : (g : Held) (hs : List Held) (o : Option Hand) (hand : Hand) → (o ≡ None → ⊥) → Behind hs o → hand_or g o ≡ Some hand → (g ∷ hs) ≡ hand.others ++ hand.last ∷ []
+more_hands g hs None hand some rest e = absurd (some refl)
+more_hands g hs (Some x) hand some rest e = ap (λ xs. g ∷ xs) (rest x refl) ∙ ap (λ (y : Hand). y.others ++ y.last ∷ []) (same_hand (behind g x) hand e)
+
 pub in_hand : (hs : List Held) (hand : Hand) → hand_of hs ≡ Some hand → hs ≡ hand.others ++ hand.last ∷ []
-in_hand hs hand e = by hs (0 < length hs) e
-  where
-    same : (x y : Hand) → Some x ≡ Some y → x ≡ y
-    same x y e = cc
-    some : (g : Held) (hs : List Held) (hand : Hand) → hand_of (g ∷ hs) ≡ Some hand → (g ∷ hs) ≡ hand.others ++ hand.last ∷ []
-    some g [] hand e = ap (λ (x : Hand). x.others ++ x.last ∷ []) (same (record { others = []; last = g }) hand e)
-    some g (g1 ∷ hs) hand e = behind_is (hand_of (g1 ∷ hs)) refl e
-      where
-        behind_is : (o : Option Hand) → hand_of (g1 ∷ hs) ≡ o → hand_or g o ≡ Some hand → (g ∷ g1 ∷ hs) ≡ hand.others ++ hand.last ∷ []
-        behind_is None is e = absurd (never (hs) is)
-        behind_is (Some x) is e = ap (λ xs. g ∷ xs) (some g1 hs x is) ∙ ap (λ (x : Hand). x.others ++ x.last ∷ []) (same (behind g x) hand e)
-        never : (hs : List Held) → hand_of (g1 ∷ hs) ≡ None → ⊥
-        never hs is = by_hand (hand_of hs) is
-          where
-            by_hand : (o : Option Hand) → hand_or g1 o ≡ None → ⊥
-            by_hand None e = absurd cc
-            by_hand (Some x) e = absurd cc
-    by : (hs : List Held) (A : Type 0) → hand_of hs ≡ Some hand → hs ≡ hand.others ++ hand.last ∷ []
-    by [] A e = absurd cc
-    by (g ∷ hs) A e = some g hs hand e
+in_hand [] hand e = absurd cc
+in_hand (g ∷ []) hand e = one_hand g hand e
+in_hand (g ∷ g1 ∷ hs) hand e = more_hands g (g1 ∷ hs) (hand_of (g1 ∷ hs)) hand (some_hand g1 (hand_of hs)) (in_hand (g1 ∷ hs)) e
 
 -- ---- what is looked up field by field
 
