@@ -16,7 +16,7 @@ use Rattle.pm_proof.specs.declared.proof.Parts.{Parts}
 use Rattle.pm_table.specs.declared.place.Place.{Place}
 use Rattle.pm_table.specs.Outcomes.{Outcome, one, require_some}
 use Rattle.pm_table.specs.Limits.{limited, all_nodes, work_formulas}
-use Rattle.pm_table.specs.Works.{Named, hold, holding, work_of, without_spat}
+use Rattle.pm_table.specs.Works.{Named, hyp_named, fact_named, hold, holding, work_of, without_spat}
 use Rattle.pm_table.specs.Terms as table
 use Rattle.pm_action.specs.Acting.{Answers, Refuses}
 use Rattle.pm_hand.specs.Changed.{less, GivesOne}
@@ -27,7 +27,7 @@ use Rattle.pm_hand.proofs.Lookups.{no_spat, only_spat}
 held_as_named : (goal : Goal) (name : Named) (s i : Option Formula) (p : Option Pure) → IsNamed goal name s i p
     → table.held_as name goal ≡ first_of_two (option_map (holding kind.Spat) s) (first_of_two (option_map (holding kind.Int) i) (option_map (λ q. holding kind.Int (Assert q)) p))
 held_as_named goal name s i p n =
-    ap (λ x. first_of_two (option_map (holding kind.Spat) x) _) n.spats
+    ap (λ x. first_of_two (option_map (holding kind.Spat) x) (first_of_two (option_map (holding kind.Int) (hyp_named name goal.ints)) (option_map (λ q. holding kind.Int (Assert q)) (fact_named name goal.pures)))) n.spats
     ∙ ap₂ (λ x y. first_of_two (option_map (holding kind.Spat) s) (first_of_two (option_map (holding kind.Int) x) (option_map (λ q. holding kind.Int (Assert q)) y))) n.ints n.pures
 
 hyp_held : (goal : Goal) (name : Named) (k : Kind) (f : Formula) → HypNamed goal name k f → table.held_as name goal ≡ Some (holding k f)
