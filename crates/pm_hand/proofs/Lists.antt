@@ -68,24 +68,29 @@ module _ {A : Type 0} (name_of : A → Named) (name : Named) where
   Found xs n = (x : A) × IsFound xs n x
 
   found_here : (x : A) (xs : List A) (j i : ℕ) (b : Bool) → test x ≡ b → cond b (Some j) (position_from test (j + 1) xs) ≡ Some i → i ≡ j + 0 → Found (x ∷ xs) 0
-  found_here x xs j i true is e at = (x, record {
-    get = refl;
-    first = ap (λ b. cond b (Some x) (first_named xs)) is;
-    counted = subst (λ b. 1 ≤ cond b (suc (count xs)) (count xs)) (sym is) (omega arith);
-    rest = λ most. ap (λ b. cond (not b) (x ∷ others xs) (others xs)) is ∙ zero_others xs (let few : suc (count xs) ≤ 1 = subst (λ b. cond b (suc (count xs)) (count xs) ≤ 1) is most in omega (arith, few));
-  })
+  found_here x xs j i true is e at = (
+    x,
+    record {
+      get = refl;
+      first = ap (λ b. cond b (Some x) (first_named xs)) is;
+      counted = subst (λ b. 1 ≤ cond b (suc (count xs)) (count xs)) (sym is) (omega arith);
+      rest = λ most. ap (λ b. cond (not b) (x ∷ others xs) (others xs)) is ∙ zero_others xs (let few : suc (count xs) ≤ 1 = subst (λ b. cond b (suc (count xs)) (count xs) ≤ 1) is most in omega (arith, few));
+    },
+  )
   found_here x xs j i false is e at = absurd (omega (arith, at, least xs (j + 1) i e))
 
   found_later : (x : A) (xs : List A) (j i n : ℕ) (b : Bool) → test x ≡ b → cond b (Some j) (position_from test (j + 1) xs) ≡ Some i → i ≡ j + suc n → (position_from test (j + 1) xs ≡ Some i → Found xs n) → Found (x ∷ xs) (suc n)
   found_later x xs j i n true is e at inner = absurd (let same : j ≡ i = cc in omega (arith, at, same))
   found_later x xs j i n false is e at inner =
-      let found = inner e in
-      (found.0, record {
-        get = found.1.get;
-        first = ap (λ b. cond b (Some x) (first_named xs)) is ∙ found.1.first;
-        counted = subst (λ b. 1 ≤ cond b (suc (count xs)) (count xs)) (sym is) found.1.counted;
-        rest = λ most. ap (λ b. cond (not b) (x ∷ others xs) (others xs)) is ∙ ap (λ ys. x ∷ ys) (found.1.rest (subst (λ b. cond b (suc (count xs)) (count xs) ≤ 1) is most));
-      })
+      let found = inner e in (
+        found.0,
+        record {
+          get = found.1.get;
+          first = ap (λ b. cond b (Some x) (first_named xs)) is ∙ found.1.first;
+          counted = subst (λ b. 1 ≤ cond b (suc (count xs)) (count xs)) (sym is) found.1.counted;
+          rest = λ most. ap (λ b. cond (not b) (x ∷ others xs) (others xs)) is ∙ ap (λ ys. x ∷ ys) (found.1.rest (subst (λ b. cond b (suc (count xs)) (count xs) ≤ 1) is most));
+        },
+      )
 
   found_from : (xs : List A) (j i n : ℕ) → i ≡ j + n → position_from test j xs ≡ Some i → Found xs n
   found_from [] j i n at e = absurd cc
