@@ -1,5 +1,5 @@
 -- Contexts without the hypotheses of a name, and what is last in hand.
-use Rattle.std.proofs.Common.{◌≡◌, ℕ, zero, suc, ◌+◌, ◌-◌, ◌<◌, ◌≤◌, Bool, true, false, not, cond, List, [], ◌∷◌, ◌++◌, length, drop, take, map, filter, get_or, refl, sym, ◌∙◌, ap, ap₂, subst, arith, Option, Some, None, bytes_eq, le_refl}
+use Rattle.std.proofs.Common.{◌≡◌, ℕ, zero, suc, ◌+◌, ◌-◌, ◌<◌, ◌≤◌, Bool, true, false, not, cond, List, [], ◌∷◌, ◌++◌, length, take, map, filter, get_or, refl, sym, ◌∙◌, ap, ap₂, subst, arith, Option, Some, None, bytes_eq}
 use Rattle.std.specs.Prelude.{slice_get, option_map, position}
 use Rattle.std.specs.List.{position_from}
 use Rattle.std.proofs.lemmas.Iterator.Adapters.{position_from-zero}
@@ -13,9 +13,7 @@ use Rattle.pm_goal.specs.declared.work.Held.{Held}
 use Rattle.pm_table.specs.Works.{Named, Hand, behind, hand_or, hand_of, hyps_but, facts_but}
 use Rattle.pm_table.specs.Works as works
 use Rattle.pm_table.specs.Stepping.{times}
-use Rattle.pm_table.proofs.Counting.{hyp_names, fact_names, times_append, fewer_hyps, fewer_facts}
 use Rattle.pm_action.specs.Acting.{all_but_last}
-use Rattle.pm_action.specs.Naming.{HypsDiffer, FactsDiffer, other_hyp, other_fact}
 
 -- ---- a list filtered by a name, item by item
 
@@ -108,6 +106,7 @@ module _ {A : Type 0} (name_of : A → Named) (name : Named) where
           least : (b : Bool) (n : ℕ) → 1 ≤ n → 1 ≤ cond b (suc n) n
           least true n le = omega arith
           least false n le = le
+
       split : (b : Bool) → bytes_eq x (name_of z) ≡ b → (times x (all_names xs) ≤ 1 → times x (all_names (take i xs)) ≡ 0) → times x (all_names (take (suc i) (z ∷ xs))) ≡ 0
       split true e rest = absurd (let m : suc (times x (all_names xs)) ≤ 1 = subst (λ b. cond b (suc (times x (all_names xs))) (times x (all_names xs)) ≤ 1) e most in omega (arith, m, found xs i at))
       split false e rest = let m : times x (all_names xs) ≤ 1 = subst (λ b. cond b (suc (times x (all_names xs))) (times x (all_names xs)) ≤ 1) e most in rw e (rest m)

@@ -1,9 +1,9 @@
 -- The first name that is free.
-use Rattle.std.proofs.Common.{◌≡◌, ℕ, zero, suc, ◌+◌, ◌-◌, ◌<◌, ◌≤◌, Bool, true, false, cond, refl, sym, ap, subst, arith, is_some}
+use Rattle.std.proofs.Common.{◌≡◌, ℕ, zero, suc, ◌<◌, Bool, true, false, cond, sym, ◌∙◌, ap, subst, arith, is_some}
 use Rattle.pm_goal.specs.declared.goal.Goal.{Goal}
 use Rattle.pm_goal.specs.Find.{find_of}
 use Rattle.pm_goal.specs.Fresh.{numbered}
-use Rattle.pm_table.specs.Works.{Named, first_free}
+use Rattle.pm_table.specs.Works.{first_free}
 
 pub free_here : (goal : Goal) (k n : ℕ) → 0 < k → is_some (find_of goal (numbered n)) ≡ false → first_free k n goal ≡ numbered n
 free_here goal zero n some free = absurd (omega (arith, some))
@@ -14,3 +14,9 @@ free_later goal k j n m e f taken = subst (λ i. first_free i n goal ≡ first_f
 
 pub free_last : (goal : Goal) (k n : ℕ) → k ≡ 0 → first_free k n goal ≡ numbered n
 free_last goal k n e = ap (λ i. first_free i n goal) e
+
+pub unused : (b r : Bool) → r ≡ b → r ≡ false → b ≡ false
+unused b r e f = sym e ∙ f
+
+pub used : (b r : Bool) → r ≡ b → r ≡ true → b ≡ true
+used b r e f = sym e ∙ f

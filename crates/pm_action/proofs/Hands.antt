@@ -1,19 +1,16 @@
 -- The star of a work without what is last in hand, and what stands there.
-use Rattle.std.proofs.Common.{◌≡◌, ℕ, zero, suc, ◌+◌, ◌-◌, ◌<◌, ◌≤◌, List, [], ◌∷◌, ◌++◌, length, length-append, map, refl, sym, ◌∙◌, ap, subst, arith, Option, Some, None}
+use Rattle.std.proofs.Common.{◌≡◌, suc, ◌<◌, List, [], ◌∷◌, ◌++◌, length, length-append, refl, sym, ◌∙◌, ap, arith, Some}
 use Rattle.std.specs.Prelude.{slice_get, remove}
-use Rattle.std.proofs.lemmas.List.{length-map, append-nil}
+use Rattle.std.proofs.lemmas.List.{length-map}
 use Rattle.pm_logic.specs.declared.formula.Formula.{Formula}
-use Rattle.pm_logic.specs.declared.formula.Formula.TheViews as view
-use Rattle.pm_goal.specs.declared.goal.Hyp.{Hyp}
-use Rattle.pm_goal.specs.declared.goal.Goal.{Goal}
 use Rattle.pm_goal.specs.declared.work.Held.{Held}
 use Rattle.pm_goal.specs.declared.work.Work.{Work}
 use Rattle.pm_goal.specs.Left.{of_kind, held_parts, left_of_work}
-use Rattle.pm_star.specs.Stars.{star, parts, shared, work_parts, part_at, without}
+use Rattle.pm_star.specs.Stars.{star, parts, work_parts, part_at, without}
 use Rattle.pm_star.proofs.Contexts.{work_star}
 use Rattle.pm_star.proofs.Places.{loses_held, held_at}
 use Rattle.pm_table.specs.Outcomes.{Outcome}
-use Rattle.pm_table.specs.Works.{Hand, hand_of, with_last, acting_on, work_of}
+use Rattle.pm_table.specs.Works.{Hand, with_last, acting_on, work_of}
 use Rattle.pm_action.specs.Acting.{IsLast, all_but_last, last_place}
 use Rattle.pm_action.proofs.Filtered.{in_hand}
 

@@ -1,26 +1,25 @@
 -- How deep the star of a work is, and how many parts it has.
-use Rattle.std.proofs.Common.{◌≡◌, ℕ, zero, suc, ◌+◌, ◌*◌, ◌<◌, ◌≤◌, max, List, [], ◌∷◌, ◌++◌, length, length-append, map, refl, sym, ◌∙◌, ap, ap₂, subst, arith}
+use Rattle.std.proofs.Common.{◌≡◌, ℕ, suc, ◌+◌, ◌≤◌, List, [], ◌∷◌, ◌++◌, length, length-append, map, arith}
 use Rattle.std.specs.List.{AllByRecursion}
 use Rattle.std.proofs.lemmas.List.{length-map}
 use Rattle.pm_logic.specs.declared.formula.Formula.{Formula}
 use Rattle.pm_logic.specs.declared.formula.Formula.TheVariants.{Pure as Assert}
-use Rattle.pm_logic.specs.Size.{nodes_of, depth_of, pure_depth}
+use Rattle.pm_logic.specs.Size.{depth_of, pure_depth}
 use Rattle.pm_logic.proofs.Sizes.{depth_pure}
 use Rattle.pm_goal.specs.declared.goal.Hyp.{Hyp}
 use Rattle.pm_goal.specs.declared.goal.Fact.{Fact}
-use Rattle.pm_goal.specs.declared.goal.Goal.{Goal}
 use Rattle.pm_goal.specs.declared.work.Held.{Held}
 use Rattle.pm_goal.specs.declared.work.Work.{Work}
 use Rattle.pm_goal.specs.Left.{facts, hyps, hyps_as, of_kind, held_parts, left_of_work}
 use Rattle.pm_goal.specs.declared.work.Kind.TheVariants as kind
 use Rattle.pm_proof.specs.Trees.{side_depth}
 use Rattle.pm_star.specs.Stars.{shared, parts, work_parts}
-use Rattle.pm_star.specs.Scopes.{IsGoalWithin, IsWorkWithin, goal_count, work_count}
+use Rattle.pm_star.specs.Scopes.{IsWorkWithin, work_count}
 use Rattle.pm_star.proofs.Scoping.{work_within}
 use Rattle.pm_classes.proofs.Sizes.{has_levels, has_nodes}
 use Rattle.pm_table.specs.Limits.{formulas, work_formulas, all_nodes, greatest_depth, hypotheses}
 use Rattle.pm_action.specs.Meanings.{meaning, height}
-use Rattle.pm_action.proofs.Sums.{nodes_append, depth_append}
+use Rattle.pm_action.proofs.Sums.{depth_append}
 
 -- no fact is deeper, and nothing behind the facts
 facts_within : (d : ℕ) (fs : List Fact) (rest : List Formula) → greatest_depth (facts fs ++ rest) ≤ d → AllByRecursion (λ (f : Fact). pure_depth f.pure ≤ d) fs × (greatest_depth rest ≤ d)
@@ -78,19 +77,31 @@ count_nodes (f ∷ fs) = omega (arith, count_nodes fs, has_nodes f)
 parts_count : (w : Work) → length (work_parts w) ≡ hypotheses w
 parts_count w =
     let g = w.goal in
-    omega (arith,
-      length-append (parts g) (held_parts w.held), length-append (shared g) (hyps g.spats), length-append (facts g.pures) (hyps_as kind.Int g.ints),
-      length-map g.pures (λ (f : Fact). Assert f.pure), length-map g.ints (λ (h : Hyp). of_kind kind.Int h.formula), length-map g.spats (λ (h : Hyp). of_kind kind.Spat h.formula),
-      length-map w.held (λ (h : Held). of_kind h.kind h.formula))
+    omega (
+      arith,
+      length-append (parts g) (held_parts w.held),
+      length-append (shared g) (hyps g.spats),
+      length-append (facts g.pures) (hyps_as kind.Int g.ints),
+      length-map g.pures (λ (f : Fact). Assert f.pure),
+      length-map g.ints (λ (h : Hyp). of_kind kind.Int h.formula),
+      length-map g.spats (λ (h : Hyp). of_kind kind.Spat h.formula),
+      length-map w.held (λ (h : Held). of_kind h.kind h.formula),
+    )
 
 formulas_count : (w : Work) → length (work_formulas w) ≡ suc (hypotheses w)
 formulas_count w =
     let g = w.goal in
-    omega (arith,
-      length-append (formulas g) (map (λ (h : Held). h.formula) w.held), length-append (facts g.pures) (hyps g.ints ++ (hyps g.spats ++ (g.concl ∷ []))),
-      length-append (hyps g.ints) (hyps g.spats ++ (g.concl ∷ [])), length-append (hyps g.spats) (g.concl ∷ []),
-      length-map g.pures (λ (f : Fact). Assert f.pure), length-map g.ints (λ (h : Hyp). of_kind kind.Spat h.formula), length-map g.spats (λ (h : Hyp). of_kind kind.Spat h.formula),
-      length-map w.held (λ (h : Held). h.formula))
+    omega (
+      arith,
+      length-append (formulas g) (map (λ (h : Held). h.formula) w.held),
+      length-append (facts g.pures) (hyps g.ints ++ (hyps g.spats ++ (g.concl ∷ []))),
+      length-append (hyps g.ints) (hyps g.spats ++ (g.concl ∷ [])),
+      length-append (hyps g.spats) (g.concl ∷ []),
+      length-map g.pures (λ (f : Fact). Assert f.pure),
+      length-map g.ints (λ (h : Hyp). of_kind kind.Spat h.formula),
+      length-map g.spats (λ (h : Hyp). of_kind kind.Spat h.formula),
+      length-map w.held (λ (h : Held). h.formula),
+    )
 
 -- the parts are fewer than the nodes of the work
 pub parts_nodes : (w : Work) → suc (length (work_parts w)) ≤ all_nodes (work_formulas w)

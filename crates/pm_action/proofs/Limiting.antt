@@ -1,17 +1,14 @@
 -- The first limit that a list of places passes.
 use Rattle.std.proofs.Common.{◌≡◌, ℕ, zero, suc, ◌+◌, ◌<◌, ◌≤◌, List, [], ◌∷◌, ◌++◌, length, drop, take, get_or, refl, sym, ◌∙◌, ap, ap₂, subst, arith, Option, Some, None}
 use Rattle.std.proofs.lemmas.List.{append-nil, append_assoc}
-use Rattle.pm_goal.specs.declared.goal.Goal.{Goal}
-use Rattle.pm_goal.specs.declared.work.Work.{Work}
 use Rattle.pm_goal.specs.declared.refusal.Row.{Row}
 use Rattle.pm_goal.specs.declared.refusal.StepFault.{StepFault}
 use Rattle.pm_goal.specs.declared.refusal.StepFault.TheVariants as fault
-use Rattle.std.specs.Prelude.{Result, Ok, Err}
+use Rattle.std.specs.Prelude.{Ok, Err}
 use Rattle.pm_proof.specs.Trees.{Tree}
-use Rattle.pm_proof.specs.declared.proof.Parts.{Parts}
 use Rattle.pm_table.specs.declared.place.Place.{Place}
 use Rattle.pm_table.specs.Outcomes.{Outcome, gives, refused, joined}
-use Rattle.pm_table.specs.Limits.{limit_row, work_at, within_limits, all_within, limited}
+use Rattle.pm_table.specs.Limits.{limit_row, work_at, within_limits, all_within}
 use Rattle.pm_action.specs.Acting.{Answers, Ends, plainly}
 use Rattle.pm_action.proofs.Sums.{from_place, none_left}
 
@@ -44,13 +41,13 @@ pub goes_on : (ps : List Place) (i j : ℕ) (p : Place) (o : Option Row) → j �
 goes_on ps i j p o next lt at is none before = record {
   within = omega (arith, next, lt);
   is =
-    let j_is : suc i ≡ j = omega (arith, next) in
-    subst (λ n. all_within ps ≡ joined (gives (take n ps)) (all_within (drop n ps))) j_is
-    (before.is
-    ∙ ap (λ qs. joined (gives (take i ps)) (all_within qs)) (from_place ps i p lt at)
-    ∙ ap (λ x. joined (gives (take i ps)) (joined x (all_within (drop (suc i) ps)))) (row_kept p (limit_row (work_at p)) refl (sym is ∙ none))
-    ∙ joined_assoc (take i ps) p (all_within (drop (suc i) ps))
-    ∙ ap (λ qs. joined (gives qs) (all_within (drop (suc i) ps))) (sym (take_more ps i p lt at)));
+      let j_is : suc i ≡ j = omega (arith, next) in
+      subst (λ n. all_within ps ≡ joined (gives (take n ps)) (all_within (drop n ps))) j_is
+      (before.is
+      ∙ ap (λ qs. joined (gives (take i ps)) (all_within qs)) (from_place ps i p lt at)
+      ∙ ap (λ x. joined (gives (take i ps)) (joined x (all_within (drop (suc i) ps)))) (row_kept p (limit_row (work_at p)) refl (sym is ∙ none))
+      ∙ joined_assoc (take i ps) p (all_within (drop (suc i) ps))
+      ∙ ap (λ qs. joined (gives qs) (all_within (drop (suc i) ps))) (sym (take_more ps i p lt at)));
 }
 
 row_refused : (p : Place) (o : Option Row) (row : Row) → limit_row (work_at p) ≡ o → o ≡ Some row → within_limits p ≡ refused (plainly row)

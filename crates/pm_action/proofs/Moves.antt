@@ -1,29 +1,25 @@
 -- From moves of a star to the proofs that actions owe.
-use Rattle.std.proofs.Common.{◌≡◌, ℕ, zero, suc, ◌+◌, ◌*◌, ◌<◌, ◌≤◌, max, List, [], ◌∷◌, ◌++◌, length, map, refl, sym, ◌∙◌, ap, subst, arith}
+use Rattle.std.proofs.Common.{◌≡◌, ℕ, suc, ◌+◌, ◌*◌, ◌≤◌, [], ◌∷◌, length, refl, sym, ◌∙◌, ap, subst, arith}
 use Rattle.std.specs.Prelude.{Result}
-use Rattle.std.specs.List.{AllByRecursion}
 use Rattle.pm_logic.specs.declared.formula.Formula.{Formula}
-use Rattle.pm_logic.specs.declared.formula.Preds.{Preds}
 use Rattle.pm_logic.specs.Scope.{Scoped}
-use Rattle.pm_logic.specs.Size.{depth_of}
 use Rattle.pm_goal.specs.declared.work.Work.{Work}
 use Rattle.pm_goal.specs.Left.{left_of_work}
 use Rattle.pm_goal.specs.declared.refusal.StepFault.{StepFault}
 use Rattle.pm_rules.specs.declared.rules.Entail.{Entail}
-use Rattle.pm_proof.specs.Trees.{Tree, Hole, entail, conclusion, side_depth}
+use Rattle.pm_proof.specs.Trees.{Tree, Hole, entail, conclusion}
 use Rattle.pm_proof.specs.Valid.{EntailScoped}
 use Rattle.pm_proof.specs.Known.{Proves, Extends, Every, ScopedWhere}
 use Rattle.pm_proof.specs.declared.proof.Parts.{Parts}
 use Rattle.pm_proof.proofs.Fills.{weaker, extends_proves, extends_weaker}
-use Rattle.pm_star.specs.Stars.{star, work_parts, room as star_room, Moves, MovesBy}
-use Rattle.pm_star.specs.Levels.{left_side, right_side}
+use Rattle.pm_star.specs.Stars.{work_parts, room as star_room, Moves, MovesBy}
 use Rattle.pm_star.specs.Chains.{ChainProves, across}
 use Rattle.pm_table.specs.declared.place.Place.{Place}
 use Rattle.pm_table.specs.declared.place.Place.TheVariants.{Current as current}
 use Rattle.pm_table.specs.Outcomes.{gives}
-use Rattle.pm_table.specs.Limits.{limited, work_formulas, all_nodes, greatest_depth}
+use Rattle.pm_table.specs.Limits.{limited, work_formulas, all_nodes}
 use Rattle.pm_table.specs.Running.{rules_within}
-use Rattle.pm_action.specs.Meanings.{meaning, meanings, height, room, width}
+use Rattle.pm_action.specs.Meanings.{meaning, height, room, width}
 use Rattle.pm_action.specs.Acting.{IsActed, Answers, Ends, MovesTo, StaysAs}
 use Rattle.pm_action.proofs.Heights.{star_height, sides_height, parts_nodes}
 

@@ -9,10 +9,9 @@ use Rattle.pm_goal.specs.declared.refusal.Refusal.{Refusal}
 use Rattle.pm_goal.specs.declared.refusal.StepFault.{StepFault}
 use Rattle.pm_goal.specs.declared.refusal.StepFault.TheVariants as fault
 use Rattle.pm_goal.specs.Refusals.{refusal}
-use Rattle.pm_proof.specs.Trees.{Tree, entail, conclusion}
+use Rattle.pm_proof.specs.Trees.{Tree, conclusion}
 use Rattle.pm_proof.specs.Known.{Proves, Every}
 use Rattle.pm_proof.specs.declared.proof.Parts.{Parts}
-use Rattle.pm_goal.specs.Left.{left_of_work}
 use Rattle.pm_table.specs.declared.place.Place.{Place}
 use Rattle.pm_table.specs.declared.place.Place.TheVariants.{Current as current}
 use Rattle.pm_table.specs.Outcomes.{Outcome, gives, refused}

@@ -60,11 +60,7 @@ fn formulas_of(alloc: Global, goal: &Goal) -> Result<List<Formula>, Memory>
 }
 
 /// The facts as formulas, the hypotheses, the conclusion, and what is in hand.
-pub fn formulas_with(
-    alloc: Global,
-    goal: &Goal,
-    held: &[Held],
-) -> Result<List<Formula>, Memory>
+pub fn formulas_with(alloc: Global, goal: &Goal, held: &[Held]) -> Result<List<Formula>, Memory>
     ensures { IfOk result (λ l. l ≡ work_formulas (work_of goal.now held.now)) }
 {
     let mut out = formulas_of(alloc, goal)?;

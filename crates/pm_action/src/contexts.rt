@@ -47,12 +47,7 @@ pub fn others(alloc: Global, work: &Work) -> Result<List<Held>, Memory>
 }
 
 /// The goal with one more in hand.
-pub fn with_held(
-    goal: Goal,
-    held: List<Held>,
-    kind: Kind,
-    formula: Formula,
-) -> Result<Work, Memory>
+pub fn with_held(goal: Goal, held: List<Held>, kind: Kind, formula: Formula) -> Result<Work, Memory>
     ensures { IfOk result (λ w. w ≡ works.work_of goal (held ++ works.holding kind formula ∷ [])) }
 {
     let mut held = held;

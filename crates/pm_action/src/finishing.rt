@@ -24,11 +24,7 @@ fn place_row(alloc: Global, place: &Place) -> Result<Option<Row>, Memory>
 }
 
 /// The places with this proof, or the first limit that one of them passes, or want of memory.
-pub fn finish(
-    alloc: Global,
-    places: List<Place>,
-    proof: Proof,
-) -> Result<Parts<Place>, StepFault>
+pub fn finish(alloc: Global, places: List<Place>, proof: Proof) -> Result<Parts<Place>, StepFault>
     ensures { Ends places proof result }
 {
     for place in places.as_slice() {

@@ -1,5 +1,5 @@
 -- What all actions keep, every directive keeps.
-use Rattle.std.proofs.Common.{◌≡◌, ℕ, Bool, true, false, cond, ◌||◌, List, [], ◌∷◌, ◌++◌, map, reverse, append-nil, refl, sym, subst, Option, Some, None}
+use Rattle.std.proofs.Common.{ℕ, Bool, true, false, cond, ◌||◌, List, [], ◌∷◌, map, reverse, Option}
 use Rattle.pm_logic.specs.declared.formula.Term.{Term}
 use Rattle.pm_logic.specs.declared.formula.Pure as P
 use Rattle.pm_logic.specs.declared.formula.Formula.{Formula}
@@ -7,7 +7,6 @@ use Rattle.pm_logic.specs.declared.formula.Formula.TheVariants.{Pure as Assert, 
 use Rattle.pm_logic.specs.declared.formula.Preds.{Preds}
 use Rattle.pm_logic.specs.Trees.{Sep, Wand, And, Or, Imp, All, Ex, Later, Pers, Upd}
 use Rattle.pm_logic.specs.Size.{term_nodes, pure_nodes, nodes_of}
-use Rattle.pm_goal.specs.declared.goal.Goal.{Goal}
 use Rattle.pm_goal.specs.declared.work.Work.{Work}
 use Rattle.pm_goal.specs.declared.work.Lemmas.{Lemmas}
 use Rattle.pm_goal.specs.declared.refusal.Row.TheVariants.{NoHypothesisToIntroduce, NoVariableToIntroduce}
@@ -23,10 +22,9 @@ use Rattle.pm_patterns.specs.declared.pattern.Pat.TheVariants as pat
 use Rattle.pm_patterns.specs.Patterns as pair
 use Rattle.pm_script.specs.declared.directive.Directive.{Directive}
 use Rattle.pm_script.specs.declared.directive.Directive.TheVariants as d
-use Rattle.pm_table.specs.Outcomes.{Outcome, Action, one}
-use Rattle.pm_table.specs.declared.place.Place.{Place}
+use Rattle.pm_table.specs.Outcomes.{Action, one}
 use Rattle.pm_table.specs.Works.{Named, at_rest}
-use Rattle.pm_table.specs.Running.{Run, after, once, in_turn, on_all, with_turn, act, act_with, each_alone, for_each, in_order}
+use Rattle.pm_table.specs.Running.{Run, after, once, in_turn, with_turn, act, act_with, each_alone, for_each, in_order}
 use Rattle.pm_classes.specs.Persistence.{is_persistent}
 use Rattle.pm_goal.specs.declared.refusal.Row.{Row}
 use Rattle.pm_table.specs.Introductions.{is_empty, intro_hyp, intro_all_fresh}
@@ -39,10 +37,10 @@ use Rattle.pm_table.specs.Heap.{combine_held, write, allocate}
 use Rattle.pm_table.specs.Loeb.{loeb, unfold_call, fold_call}
 use Rattle.pm_table.specs.Linears.{linear, linear_with}
 use Rattle.pm_table.specs.Terms.{take, lend, lemma, lemma_named, with_term, with_spat, assert, apply, frame_held, frame_named, frame_member}
-use Rattle.pm_table.specs.Patterns.{opening, turn, destruct, destruct_all, fact_names, int_names, spat_names, clear_selected, clear_all_selected, run_actions, universals, intro_alls, left_side, premises, intro_premises, intro_one, intro_pattern, intro, intro_each}
+use Rattle.pm_table.specs.Patterns.{opening, turn, destruct, destruct_all, fact_names, int_names, spat_names, clear_selected, clear_all_selected, run_actions, universals, intro_alls, left_side, premises, intro_premises, intro_one, intro_pattern, intro}
 use Rattle.pm_table.specs.Directives.{lemma_nodes, head_run, term_run, is_bare, head_name, frame_selected, sels_or_spats, revert_selected, revert_all, run}
 use Rattle.pm_table.specs.Stepping.{Each}
-use Rattle.pm_table.proofs.Keeping.{Everywhere, InRun, Good, GoodRun, GoodPlaces, after_in, once_in, in_turn_in, on_all_in, act_in, act_with_in, each_alone_in, for_each_in, in_order_in, everywhere_with_turn, rest_good, anything}
+use Rattle.pm_table.proofs.Keeping.{InRun, Good, GoodRun, GoodPlaces, after_in, once_in, in_turn_in, on_all_in, act_in, act_with_in, each_alone_in, for_each_in, in_order_in, everywhere_with_turn, rest_good, anything}
 
 -- what is kept, and what is known of terms, pure formulas and formulas that are handed to actions
 pub record Kept : Type 1 where

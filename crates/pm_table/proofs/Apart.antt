@@ -1,5 +1,5 @@
 -- Steps keep names apart.
-use Rattle.std.proofs.Common.{◌≡◌, ℕ, zero, suc, ◌+◌, ◌<◌, ◌≤◌, Bool, true, false, cond, not, find, flat_map, ◌&&◌, ◌||◌, ◌==◌, length, List, [], ◌∷◌, ◌++◌, map, filter, refl, sym, ◌∙◌, ap, ap₂, subst, arith, Option, Some, None, is_some, bytes_eq, le_refl, option_and_then}
+use Rattle.std.proofs.Common.{◌≡◌, ℕ, suc, ◌+◌, ◌≤◌, Bool, true, false, cond, not, find, flat_map, ◌||◌, ◌==◌, length, List, [], ◌∷◌, map, refl, sym, ◌∙◌, ap, ap₂, subst, arith, Option, Some, None, is_some, bytes_eq, le_refl, option_and_then}
 use Rattle.std.specs.Bool.{then_some}
 use Rattle.std.specs.List.{list_all}
 use Rattle.std.proofs.lemmas.Slice.Eq.{bytes_eq-Decides}
@@ -16,11 +16,9 @@ use Rattle.pm_goal.specs.declared.goal.Fact.{Fact}
 use Rattle.pm_goal.specs.declared.goal.Goal.{Goal}
 use Rattle.pm_goal.specs.declared.work.Kind.{Kind}
 use Rattle.pm_goal.specs.declared.work.Kind.TheVariants.{Int, Spat}
-use Rattle.pm_goal.specs.declared.work.Held.{Held}
 use Rattle.pm_goal.specs.declared.work.Work.{Work}
 use Rattle.pm_goal.specs.declared.work.Lemmas.{Lemmas}
 use Rattle.pm_patterns.specs.declared.pattern.Pat.{Pat}
-use Rattle.pm_patterns.specs.declared.pattern.Pick.{Pick}
 use Rattle.pm_patterns.specs.declared.pattern.Cert.{Cert}
 use Rattle.pm_patterns.specs.declared.pattern.Spat as S
 use Rattle.pm_patterns.specs.declared.pattern.Spat.TheVariants as premise
@@ -30,33 +28,32 @@ use Rattle.pm_classes.specs.Classes.{Parts, into_or, into_pure, into_forall, int
 use Rattle.pm_classes.specs.Persistence.{is_persistent}
 use Rattle.pm_table.specs.declared.passage.Passage.{Passage}
 use Rattle.pm_table.specs.declared.passage.Passage.TheVariants as passage
-use Rattle.pm_table.specs.Outcomes.{Outcome, Action, gives, one, closed}
-use Rattle.pm_table.specs.declared.place.Place.{Place}
-use Rattle.pm_table.specs.declared.place.Place.TheVariants.{Finished as finished, Current as current}
-use Rattle.pm_table.specs.Limits.{resting, work_at}
+use Rattle.pm_table.specs.Outcomes.{Outcome, Action, one}
+use Rattle.pm_table.specs.declared.place.Place.TheVariants.{Current as current}
+use Rattle.pm_table.specs.Limits.{resting}
 use Rattle.pm_table.specs.Works
 use Rattle.pm_table.specs.Works.{Named, Hand, hand_of, has_hyp, has_fact, has_hyp_or_fact, hyp_named, fact_named, index_named, is_listed, fits, fresh_name, with_hyp, with_fact, with_int, with_var, with_concl, without_named, without_spat, work_of, hyps_in, hyps_out}
-use Rattle.pm_table.specs.Introductions.{Sides, sides_of, is_blocked, universal_of, intro_hyp, intro_all, intro_all_fresh}
+use Rattle.pm_table.specs.Introductions.{sides_of, is_blocked, universal_of, intro_hyp, intro_all, intro_all_fresh}
 use Rattle.pm_table.specs.Destructs as destructs
 use Rattle.pm_table.specs.Destructs.{var_name, into_parts, with_hand, name_held, name_fresh, drop_held, both_parts, body_held, one_part, fourth_way, third_way, parts_or, is_drop, boxed_part, either, absurd_held, is_falsehood, to_pure, to_pure_fresh, to_int, to_spat}
 use Rattle.pm_table.specs.Basic as basic
 use Rattle.pm_table.specs.Basic.{on_goal, for, is_truth, split_parts, star_parts, or_parts, body_of_ex, list_given, is_exact, is_hypothesis, is_fact, reverted, mentions, with_spats, split, split_at, sides, side, exists, exfalso, exact, assumption, done, try_done, is_done, clear, rename, renamed, with_renamed, revert, revert_var, without_var, names_but, chosen, unchosen}
 use Rattle.pm_table.specs.Patterns.{opening, intro_one, intro_var_or_hyp}
 use Rattle.pm_table.specs.Modalities.{under_update, Modality, passed, acted, mod_intro, later, head_intro, next, elim_update, modality_of}
-use Rattle.pm_table.specs.Rewriting.{Equation, equation_of, rewritten, rewritten_pure, occurs, occurs_in_pure, subst_held, rewritten_goal, put_fact, put_fact_in, rewrite_concl, rewrite_hyp, rewrite_fact, rewrite_at, rewrite, pure_intro, cases}
-use Rattle.pm_table.specs.Heap.{full_location, put, put_in, holding_combined, combine_held, write, allocate}
+use Rattle.pm_table.specs.Rewriting.{Equation, equation_of, rewritten, rewritten_pure, occurs, occurs_in_pure, subst_held, rewritten_goal, put_fact, put_fact_in, rewrite_at, rewrite, pure_intro, cases}
+use Rattle.pm_table.specs.Heap.{full_location, put, put_in, combine_held, write, allocate}
 use Rattle.pm_table.specs.Loeb.{wands, body_of_call, formula_named, loeb, unfold_call, fold_call}
 use Rattle.pm_table.specs.Linears.{is_atom, linear_conclusion, are_small, in_box, atoms, readings, given_twice, fact_passes, certify, linear, linear_with}
 use Rattle.pm_table.specs.Linears.{names_of as names_of_cert}
 use Rattle.pm_table.specs.Equality.{formula_eq}
 use Rattle.pm_table.specs.Framing.{frame}
 use Rattle.pm_table.specs.Occurrences.{without}
-use Rattle.pm_table.specs.Terms.{held_as, lemma_named, premises, Step, take, lend, lemma, with_term, with_spat, assert, by_hypothesis, framed, with_these, with_others, by_persistence, by_purity, by_closing, by_pattern, keeping, leaving, picked, picked_framed, after_goal, main, premise_goal, premise_goals, apply, concluding, frame_held, frame_named, frame_member, passing, is_premise}
+use Rattle.pm_table.specs.Terms.{held_as, lemma_named, premises, Step, take, lend, lemma, with_term, with_spat, assert, framed, by_pattern, keeping, leaving, picked, picked_framed, premise_goal, premise_goals, apply, concluding, frame_held, frame_named, frame_member, passing, is_premise}
 use Rattle.pm_table.specs.Directives.{run_on, step}
-use Rattle.pm_table.specs.Stepping.{Each, EachGoal, times, names_of, NamesDiffer, StepsKeepNamesApart}
+use Rattle.pm_table.specs.Stepping.{EachGoal, times, names_of, NamesDiffer, StepsKeepNamesApart}
 use Rattle.pm_table.proofs.Keeping.{Everywhere, InOutcome, Good, rest_good, anything}
 use Rattle.pm_table.proofs.Outcomes.{joined_in, good, opening_in, chosen_in, require_in, require_plain_in, require_some_in, require_entry_in, all_spatial_in, with_last_in, refuse_where_in}
-use Rattle.pm_table.proofs.Counting.{fact_names, hyp_names, Fewer, same, fewer_from, none_are_fewer, fewer_hyps, fewer_facts, each_hyp_names, each_fact_names, FewerNames, in_parts, times_in_goal, fewer_names, differ_still, fitting, differ_with, more_hyp, more_int, more_fact, more_var, times_append}
+use Rattle.pm_table.proofs.Counting.{fact_names, hyp_names, Fewer, same, fewer_from, none_are_fewer, fewer_hyps, fewer_facts, each_hyp_names, each_fact_names, FewerNames, in_parts, times_in_goal, fewer_names, differ_still, fitting, differ_with, more_hyp, more_int, more_fact, more_var}
 use Rattle.pm_table.proofs.Acting.{Kept, ActionsKeep, Handed, run_in}
 use Rattle.pm_table.proofs.Within.{stepped_in}
 

@@ -1,6 +1,5 @@
 -- How many times a name stands in a goal, after each change of the goal.
-use Rattle.std.proofs.Common.{◌≡◌, ℕ, zero, suc, ◌+◌, ◌-◌, ◌<◌, ◌≤◌, Bool, true, false, cond, not, ◌||◌, List, [], ◌∷◌, ◌++◌, map, filter, length, refl, sym, ◌∙◌, ap, subst, arith, Option, Some, None, option_map, is_some, position, bytes_eq, le_refl, le_trans}
-use Rattle.std.proofs.lemmas.Bool.Decides.{nat_tests}
+use Rattle.std.proofs.Common.{◌≡◌, ℕ, suc, ◌+◌, ◌-◌, ◌≤◌, Bool, true, false, cond, not, ◌||◌, List, [], ◌∷◌, ◌++◌, map, filter, length, refl, sym, ◌∙◌, ap, subst, arith, Option, Some, None, option_map, is_some, position, bytes_eq, le_refl}
 use Rattle.std.proofs.lemmas.Slice.Eq.{bytes_eq-Decides}
 use Rattle.std.proofs.lemmas.Iterator.Adapters.{position_from-zero}
 use Rattle.std.specs.List.{position_from}
@@ -16,7 +15,7 @@ use Rattle.pm_goal.specs.declared.finding.Found.TheVariants as found
 use Rattle.pm_goal.specs.declared.work.Kind.{Kind}
 use Rattle.pm_goal.specs.declared.work.Kind.TheVariants.{Int, Spat}
 use Rattle.pm_goal.specs.Find.{first_of_two, hyp_of, find_of}
-use Rattle.pm_table.specs.Works.{Named, is_numbered, is_taken, fits, hyp, fact, with_fact, with_int, with_spat, with_hyp, with_var, hyps_but, facts_but, each_fact, each_hyp}
+use Rattle.pm_table.specs.Works.{Named, is_numbered, fits, hyp, fact, with_fact, with_int, with_spat, with_hyp, with_var, each_fact, each_hyp}
 use Rattle.pm_table.specs.Stepping.{times, names_of, NamesDiffer}
 
 abbrev pub fact_names : List Fact → List Named

@@ -1,21 +1,17 @@
 -- Each spatial hypothesis goes to exactly one goal, or is framed.
-use Rattle.std.proofs.Common.{◌≡◌, ℕ, Bool, true, false, cond, not, find, ◌||◌, List, [], ◌∷◌, filter, refl, sym, ◌∙◌, ap, subst, Option, Some, None, bytes_eq}
+use Rattle.std.proofs.Common.{◌≡◌, Bool, true, false, cond, not, find, ◌||◌, List, [], ◌∷◌, filter, refl, ◌∙◌, ap, subst, Option, Some, None, bytes_eq}
 use Rattle.std.proofs.lemmas.Slice.Eq.{bytes_eq-Decides}
-use Rattle.pm_logic.specs.declared.formula.Formula.{Formula}
 use Rattle.pm_goal.specs.declared.goal.Hyp.{Hyp}
 use Rattle.pm_goal.specs.declared.goal.Goal.{Goal}
-use Rattle.pm_goal.specs.declared.work.Kind.TheVariants.{Spat}
 use Rattle.pm_goal.specs.declared.refusal.Refusal.{Refusal}
 use Rattle.pm_goal.specs.declared.refusal.Row.{Row}
-use Rattle.pm_patterns.specs.declared.pattern.Pick.{Pick}
 use Rattle.pm_classes.specs.Classes.{Parts}
 use Rattle.pm_table.specs.Outcomes.{Outcome, gives, refused, joined, closed, require_entry, require_some}
 use Rattle.pm_table.specs.declared.place.Place.{Place}
-use Rattle.pm_table.specs.declared.place.Place.TheVariants.{Finished as finished, Current as current}
-use Rattle.pm_table.specs.Works.{Named, has_hyp, has_spat, is_listed, hyps_in, hyps_out, hyps_but, hyp_named, without_spat, with_concl}
-use Rattle.pm_table.specs.Basic.{chosen, unchosen, sides, split_at, star_parts, all_spatial, refuse_where, repeated, list_given, is_truth}
+use Rattle.pm_table.specs.Works.{Named, has_hyp, has_spat, is_listed, hyps_out, hyps_but, hyp_named, without_spat, with_concl}
+use Rattle.pm_table.specs.Basic.{chosen, unchosen, sides, star_parts, all_spatial, refuse_where, repeated, list_given, is_truth}
 use Rattle.pm_table.specs.Framing.{frame}
-use Rattle.pm_table.specs.Terms.{Step, picked, picked_framed, framed, keeping, leaving, going_on_with, main, with_these, with_others, by_pattern}
+use Rattle.pm_table.specs.Terms.{picked, picked_framed, framed, keeping, by_pattern}
 use Rattle.pm_table.specs.Stepping.{Each}
 use Rattle.pm_table.specs.Dealing.{Dealt, none, to_first, to_second, is_framed, spats_at, DealtToTwo, DealtAndFramed, SplitsDeal, PremisesDeal}
 

@@ -1,9 +1,7 @@
 -- What each action keeps, steps keep.
-use Rattle.std.proofs.Common.{◌≡◌, ℕ, zero, suc, Bool, true, false, cond, List, [], ◌∷◌, ◌++◌, map, replicate, refl, sym, subst, Option, Some, None}
-use Rattle.pm_goal.specs.declared.goal.Goal.{Goal}
+use Rattle.std.proofs.Common.{ℕ, Bool, true, false, List, [], ◌∷◌, ◌++◌, map}
 use Rattle.pm_goal.specs.declared.work.Held.{Held}
 use Rattle.pm_goal.specs.declared.work.Work.{Work}
-use Rattle.pm_goal.specs.declared.refusal.Row.{Row}
 use Rattle.pm_table.specs.Works.{where_none, at_rest}
 use Rattle.pm_table.specs.Outcomes.{Outcome, gives, refused, Action, one}
 use Rattle.pm_table.specs.declared.place.Place.{Place}

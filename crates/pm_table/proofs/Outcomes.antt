@@ -1,17 +1,14 @@
 -- What holds of each work that an action gives, whichever of its rows it answers.
-use Rattle.std.proofs.Common.{◌≡◌, ℕ, Bool, true, false, cond, not, find, List, [], ◌∷◌, ◌++◌, map, refl, sym, subst, Option, Some, None}
+use Rattle.std.proofs.Common.{◌≡◌, Bool, true, false, cond, not, find, List, [], ◌∷◌, refl, Option, Some, None}
 use Rattle.pm_goal.specs.declared.goal.Goal.{Goal}
-use Rattle.pm_goal.specs.declared.work.Held.{Held}
 use Rattle.pm_goal.specs.declared.work.Work.{Work}
 use Rattle.pm_goal.specs.declared.refusal.Row.{Row}
-use Rattle.pm_table.specs.Outcomes.{Outcome, gives, refused, Action, refuse, refuse_plain, require, require_plain, require_some, require_entry, joined, one}
+use Rattle.pm_table.specs.Outcomes.{Outcome, gives, refused, Action, refuse, refuse_plain, require, require_plain, require_some, require_entry, joined}
 use Rattle.pm_table.specs.declared.place.Place.{Place}
 use Rattle.pm_table.specs.Limits.{limit_row, work_at, kept_or, within_limits, all_within, limited}
 use Rattle.pm_table.specs.Works.{Named, has_hyp, has_spat, Hand, hand_of, acting_on, with_last}
-use Rattle.pm_table.specs.Running.{turns_behind}
 use Rattle.pm_table.specs.Basic.{all_spatial, refuse_where, repeated}
-use Rattle.pm_table.specs.Patterns.{opening, outcome_with}
-use Rattle.pm_table.specs.Stepping.{Each}
+use Rattle.pm_table.specs.Patterns.{outcome_with}
 use Rattle.pm_table.proofs.Keeping.{Everywhere, InOutcome, Good, everywhere_append, everywhere_turns}
 
 module _ (P : Work → Type 0) where

@@ -21,7 +21,7 @@ use Rattle.pm_table.specs.Limits.{resting}
 use Rattle.pm_table.specs.Occurrences.{in_a_pure, in_a_formula, without, to_front}
 use Rattle.pm_table.specs.Works
 use Rattle.pm_table.specs.Works.{Named, hyp_named, fact_named, index_named, has_hyp_or_fact, fits, is_listed, hyps_in, hyps_out, without_named}
-use Rattle.pm_table.specs.Basic.{on_goal, for, with_spats, split_parts, star_parts, or_parts, body_of_ex, list_given, is_exact, is_hypothesis, is_fact, reverted, mentions, names_but, without_var, split, split_at, sides, side, exists, exfalso, exact, assumption, done, try_done, is_done, clear, rename, renamed, with_renamed, revert, revert_var, chosen, unchosen}
+use Rattle.pm_table.specs.Basic.{for, with_spats, split_parts, star_parts, or_parts, body_of_ex, list_given, is_exact, is_hypothesis, is_fact, reverted, mentions, names_but, without_var, split, split_at, sides, side, exists, exfalso, exact, assumption, done, try_done, is_done, clear, rename, renamed, with_renamed, revert, revert_var, chosen, unchosen}
 use Rattle.pm_table.specs.Scopes.{GoalScopedIn, IsGoalScoped}
 use Rattle.pm_table.proofs.Keeping.{InOutcome}
 use Rattle.pm_table.proofs.Outcomes.{chosen_in, require_in, require_plain_in, require_some_in, all_spatial_in}

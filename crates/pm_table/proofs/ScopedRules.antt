@@ -36,7 +36,7 @@ use Rattle.pm_table.specs.Limits.{resting}
 use Rattle.pm_table.specs.Works
 use Rattle.pm_table.specs.Works.{Named, hyp_named, fact_named, has_hyp, has_fact, fits, is_listed, hyps_out, with_int, with_fact, with_var, each_hyp, each_fact, each_held, holding, work_of}
 use Rattle.pm_table.specs.Destructs.{is_falsehood}
-use Rattle.pm_table.specs.Basic.{on_goal, with_spats}
+use Rattle.pm_table.specs.Basic.{with_spats}
 use Rattle.pm_table.specs.Equality.{formula_eq}
 use Rattle.pm_table.specs.Modalities.{under_box, under_update, without_later, Modality, later, passed, acted, mod_intro, modality_of, head_intro, next, elim_update}
 use Rattle.pm_table.specs.Heap.{put_in, put, combine_held, full_location, write, allocate}

@@ -1,6 +1,5 @@
 -- What patterns do with what is last in hand. In each row the conditions stand in the order in which they are tested.
-use Rattle.std.specs.Prelude.{ℕ, Bool, true, false, ◌++◌, List, [], ◌∷◌, Option, Some, None}
-use Rattle.pm_logic.specs.declared.formula.Pure.{Pure}
+use Rattle.std.specs.Prelude.{Bool, true, false, ◌++◌, List, [], ◌∷◌, Option, Some, None}
 use Rattle.pm_logic.specs.declared.formula.Pure.TheVariants.{False}
 use Rattle.pm_logic.specs.declared.formula.Formula.{Formula}
 use Rattle.pm_logic.specs.declared.formula.Formula.TheVariants.{Pure as Assert}
@@ -16,7 +15,6 @@ use Rattle.pm_patterns.specs.declared.pattern.Pat.{Pat}
 use Rattle.pm_patterns.specs.declared.pattern.Pat.TheVariants.{Drop, PureName, PureFresh}
 use Rattle.pm_classes.specs.Classes.{Parts, into_sep, into_and, into_or, into_exist, into_pure, into_persistent}
 use Rattle.pm_table.specs.Outcomes.{Outcome, gives, refuse_plain, require, require_plain, require_entry, closed, one}
-use Rattle.pm_table.specs.declared.place.Place.{Place}
 use Rattle.pm_table.specs.declared.place.Place.TheVariants.{Current as current}
 use Rattle.pm_table.specs.Works.{Named, fits, fresh_name, with_fact, with_hyp, with_var, holding, each_held, work_of, Hand, with_last}
 

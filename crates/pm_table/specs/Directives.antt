@@ -4,7 +4,6 @@ use Rattle.pm_logic.specs.declared.formula.Formula.{Formula}
 use Rattle.pm_logic.specs.declared.formula.Preds.{Preds}
 use Rattle.pm_logic.specs.Size.{term_nodes, pure_nodes, nodes_of}
 use Rattle.pm_goal.specs.declared.goal.Goal.{Goal}
-use Rattle.pm_goal.specs.declared.work.Work.{Work}
 use Rattle.pm_goal.specs.declared.work.Lemmas.{Lemmas}
 use Rattle.pm_goal.specs.declared.refusal.Refusal.{Refusal}
 use Rattle.pm_patterns.specs.declared.pattern.Sel.{Sel}
@@ -15,9 +14,8 @@ use Rattle.pm_patterns.specs.declared.pattern.ProofTerm.{ProofTerm}
 use Rattle.pm_patterns.specs.Patterns.{Elim}
 use Rattle.pm_script.specs.declared.directive.Directive.{Directive}
 use Rattle.pm_script.specs.declared.directive.Directive.TheVariants as d
-use Rattle.pm_table.specs.Outcomes.{Action}
 use Rattle.pm_table.specs.declared.place.Place.{Place}
-use Rattle.pm_table.specs.declared.place.Place.TheVariants.{Finished as finished, Current as current}
+use Rattle.pm_table.specs.declared.place.Place.TheVariants.{Current as current}
 use Rattle.pm_table.specs.Limits.{resting, work_at}
 use Rattle.pm_table.specs.Works.{Named, at_rest}
 use Rattle.pm_table.specs.Running.{Run, ran, stopped, after, act, act_with, each_alone, for_each, in_order}

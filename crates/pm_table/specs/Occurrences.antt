@@ -7,7 +7,7 @@ use Rattle.pm_logic.specs.declared.formula.Pure.TheVariants.{True, False, Eq, Le
 use Rattle.pm_logic.specs.declared.formula.Formula.{Formula}
 use Rattle.pm_logic.specs.declared.formula.Formula.TheVariants.{Pure as Assert, Pts, Call}
 use Rattle.pm_logic.specs.Trees.{add, sub, neg, scale, both, either, nope, Sep, Wand, And, Or, Imp, All, Ex, Later, Pers, Upd}
-use Rattle.pm_logic.specs.Substitution.{Sub, in_pure, in_formula, one_up}
+use Rattle.pm_logic.specs.Substitution.{Sub, in_pure, one_up}
 
 -- ---- whether the index occurs
 

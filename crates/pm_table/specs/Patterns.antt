@@ -1,9 +1,8 @@
 -- Patterns, run on works. An action runs on all works that it is for, from left to right, before the next one runs.
-use Rattle.std.specs.Prelude.{ℕ, Bool, true, false, ◌||◌, List, [], ◌∷◌, map, reverse, if◌then◌else◌, Option, Some, None}
+use Rattle.std.specs.Prelude.{ℕ, Bool, true, false, ◌||◌, List, [], ◌∷◌, map, if◌then◌else◌, Option, Some, None}
 use Rattle.pm_logic.specs.declared.formula.Formula.{Formula}
 use Rattle.pm_logic.specs.Trees.{Wand, Imp, All}
 use Rattle.pm_goal.specs.declared.goal.Goal.{Goal}
-use Rattle.pm_goal.specs.declared.work.Kind.TheVariants as kind
 use Rattle.pm_goal.specs.declared.work.Work.{Work}
 use Rattle.pm_goal.specs.declared.refusal.Row.TheVariants.{NoHypothesisToIntroduce, NoVariableToIntroduce}
 use Rattle.pm_patterns.specs.declared.pattern.Sel.{Sel}
@@ -14,9 +13,8 @@ use Rattle.pm_patterns.specs.Patterns.{Pair, Either, Int, Spat, Elim}
 use Rattle.pm_classes.specs.Persistence.{is_persistent}
 use Rattle.pm_table.specs.Outcomes.{Outcome, refuse_plain, Action, gives, refused, one}
 use Rattle.pm_table.specs.declared.place.Place.{Place}
-use Rattle.pm_table.specs.declared.place.Place.TheVariants.{Current as current}
 use Rattle.pm_table.specs.Works.{Named, at_rest}
-use Rattle.pm_table.specs.Running.{Run, after, stopped, stays, once, run_of, in_turn, on_all, turns_behind, with_turn, act, each_alone, for_each, in_order}
+use Rattle.pm_table.specs.Running.{Run, after, once, run_of, in_turn, on_all, turns_behind, with_turn, act, each_alone, for_each, in_order}
 use Rattle.pm_goal.specs.declared.refusal.Row.{Row}
 use Rattle.pm_table.specs.Introductions.{is_empty, intro_hyp, intro_all, intro_all_fresh, universal_of}
 use Rattle.pm_table.specs.Destructs.{var_name, name_held, name_fresh, drop_held, pair, either, absurd_held, to_pure, to_pure_fresh, to_int, to_spat}

@@ -1,6 +1,5 @@
 -- Actions run on works: on each in its turn, within the limits, and how many rules the steps may take.
 use Rattle.std.specs.Prelude.{ℕ, suc, ◌+◌, ◌*◌, Bool, true, false, List, [], ◌∷◌, ◌++◌, map, replicate}
-use Rattle.pm_goal.specs.declared.goal.Goal.{Goal}
 use Rattle.pm_goal.specs.declared.work.Work.{Work}
 use Rattle.pm_goal.specs.declared.refusal.Refusal.{Refusal}
 use Rattle.pm_table.specs.Outcomes.{Outcome, gives, refused, Action}

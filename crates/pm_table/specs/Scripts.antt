@@ -1,5 +1,5 @@
 -- Scripts, each computed: its directives one after another, each on the first goal.
-use Rattle.std.specs.Prelude.{◌≡◌, ℕ, zero, suc, pos, Bool, true, false, codes, List, [], ◌∷◌, ◌++◌, replicate, Option, Some, None}
+use Rattle.std.specs.Prelude.{◌≡◌, ℕ, pos, false, codes, List, [], ◌∷◌, ◌++◌, Some, None}
 use Rattle.std.proofs.Common.{refl}
 use Rattle.std.specs.Fmt.{digits}
 use Rattle.pm_logic.specs.declared.formula.Term.{Term}
@@ -7,10 +7,9 @@ use Rattle.pm_logic.specs.declared.formula.Term.TheVariants.{Lit, Var}
 use Rattle.pm_logic.specs.declared.formula.Pure.TheVariants.{True, False, Eq, Le, Lt}
 use Rattle.pm_logic.specs.declared.formula.Formula.{Formula}
 use Rattle.pm_logic.specs.declared.formula.Formula.TheVariants.{Pure as Assert, Pts, Call}
-use Rattle.pm_logic.specs.declared.formula.Pred.{Pred}
 use Rattle.pm_logic.specs.declared.formula.Preds.{Preds}
 use Rattle.pm_logic.specs.declared.formula.TheConstants.{UNIT}
-use Rattle.pm_logic.specs.Trees.{add, Sep, Wand, And, Or, Imp, All, Ex, Later, Pers, Upd}
+use Rattle.pm_logic.specs.Trees.{add, Sep, Wand, Or, All, Ex, Later, Pers, Upd}
 use Rattle.pm_logic.specs.Scope.{no_predicates}
 use Rattle.pm_logic.specs.Abstraction.{term_eq, new_index_or, abstracted}
 use Rattle.pm_logic.specs.Changes.{changed, changed_pure}
@@ -18,9 +17,7 @@ use Rattle.pm_logic.specs.Substitution.{in_term, in_pure, in_formula, raised_by}
 use Rattle.pm_logic.specs.Size.{nodes_of, pure_nodes, term_nodes, terms_nodes, depth_of, pure_depth, term_depth, terms_depth}
 use Rattle.pm_logic.specs.Classes.{IsPersistent}
 use Rattle.pm_rules.specs.Linear.{coefficient_of, constant_of, atom}
-use Rattle.pm_goal.specs.declared.goal.Hyp.{Hyp}
 use Rattle.pm_goal.specs.declared.goal.Goal.{Goal}
-use Rattle.pm_goal.specs.declared.work.Lemmas.{Lemmas}
 use Rattle.pm_goal.specs.declared.refusal.Row.TheVariants.{NoSuchHypothesis, NotFullPointsTo}
 use Rattle.pm_goal.specs.declared.refusal.Refusal.{Refusal}
 use Rattle.pm_goal.specs.Refusals.{refusal}
@@ -37,7 +34,7 @@ use Rattle.pm_classes.specs.Persistence.{persistence}
 use Rattle.pm_classes.specs.Classes.{into_and, into_sep, into_or, into_exist, into_forall, into_wand, into_pure, from_pure, into_persistent, combine}
 use Rattle.pm_table.specs.Equality.{terms_eq, pure_eq, formula_eq}
 use Rattle.pm_table.specs.Occurrences.{in_a_term, in_some_term, in_a_pure, in_a_formula}
-use Rattle.pm_table.specs.Works.{Named, hyp, fact}
+use Rattle.pm_table.specs.Works.{Named, hyp}
 use Rattle.pm_table.specs.Modalities.{under_later, under_box, under_update, without_later, passed, modality_of}
 use Rattle.pm_table.specs.Framing.{star as star_rest, conjunction, disjunction, above, whole, fewer_units, frame}
 use Rattle.pm_table.specs.Heap.{full_location}

@@ -1,11 +1,10 @@
 -- Parts of goals and works: what a name names, and works with a hypothesis, fact or variable more or less.
-use Rattle.std.specs.Prelude.{ℕ, zero, suc, ◌+◌, ◌-◌, Bool, true, false, ◌&&◌, ◌||◌, ◌==◌, not, nat_lt, is_some, List, [], ◌∷◌, ◌++◌, map, filter, length, Option, Some, None, option_map, if◌then◌else◌}
+use Rattle.std.specs.Prelude.{ℕ, zero, suc, ◌+◌, Bool, false, ◌&&◌, ◌||◌, ◌==◌, not, nat_lt, is_some, List, [], ◌∷◌, ◌++◌, map, filter, length, Option, Some, None, if◌then◌else◌}
 use Rattle.std.specs.List.{list_all, list_any}
 use Rattle.std.specs.Str.{bytes_eq}
 use Rattle.pm_logic.specs.declared.formula.Pure.{Pure}
 use Rattle.pm_logic.specs.declared.formula.Formula.{Formula}
-use Rattle.pm_logic.specs.declared.formula.Formula.TheVariants.{Pure as Assert}
-use Rattle.pm_logic.specs.Substitution.{Sub, in_pure, in_formula, one_up, shift_of}
+use Rattle.pm_logic.specs.Substitution.{shift_of}
 use Rattle.pm_goal.specs.declared.goal.Hyp.{Hyp}
 use Rattle.pm_goal.specs.declared.goal.Fact.{Fact}
 use Rattle.pm_goal.specs.declared.goal.Goal.{Goal}
@@ -13,7 +12,7 @@ use Rattle.pm_goal.specs.declared.work.Kind.{Kind}
 use Rattle.pm_goal.specs.declared.work.Kind.TheVariants.{Int, Spat}
 use Rattle.pm_goal.specs.declared.work.Held.{Held}
 use Rattle.pm_goal.specs.declared.work.Work.{Work}
-use Rattle.pm_goal.specs.Find.{find_of, first_of_two}
+use Rattle.pm_goal.specs.Find.{find_of}
 use Rattle.pm_goal.specs.Fresh.{numbered}
 use Rattle.pm_tokens.specs.Characters.{is_digit}
 use Rattle.pm_table.specs.Outcomes.{Outcome, Action, one}

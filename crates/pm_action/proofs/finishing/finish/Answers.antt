@@ -1,4 +1,4 @@
-use Rattle.std.proofs.Common.{◌≡◌, ◌+◌, refl, sym, subst, arith, Ok, Err}
+use Rattle.std.proofs.Common.{◌+◌, refl, subst, Ok, Err}
 use Rattle.pm_action.specs.Acting.{Ends}
 use Rattle.pm_action.proofs.Limiting.{begins, goes_on, refuses_at, ends}
 use Rattle.pm_action.proofs.finishing.finish.Goals as goal
