@@ -130,11 +130,13 @@ pub absurd_last : (w : Work) (l : Held) (rest : Tree) → l.formula ≡ Assert p
     → Proves Every (entail (length w.goal.vars) (of_kind l.kind l.formula) w.goal.concl) [] 3 (deepest (w.goal.concl ∷ []) [] + 3) (length w.goal.vars) rest
 absurd_last w l rest e p = subst (λ f. Proves Every (entail (length w.goal.vars) (of_kind l.kind f) w.goal.concl) [] 3 (deepest (w.goal.concl ∷ []) [] + 3) (length w.goal.vars) rest) (sym e) p
 
-pub absurd_closes : (w : Work) (l : Held) (reached rest p : Tree) → IsLast w l → l.formula ≡ Assert pure.False
+pub absurd_closes : (w : Work) (l : Held) (v : ℕ) (reached rest p : Tree) → IsLast w l → l.formula ≡ Assert pure.False → v ≡ length w.goal.vars
     → FromStar w (of_kind l.kind l.formula) reached
-    → Proves Every (entail (length w.goal.vars) (of_kind l.kind (Assert pure.False)) w.goal.concl) [] 3 (deepest (w.goal.concl ∷ []) [] + 3) (length w.goal.vars) rest
+    → Proves Every (entail v (of_kind l.kind (Assert pure.False)) w.goal.concl) [] 3 (deepest (w.goal.concl ∷ []) [] + 3) v rest
     → ChainProves reached rest p → IsActed (all_nodes (work_formulas w)) w [] p
-absurd_closes w l reached rest p is e a b chain = closes w l reached rest p 3 (deepest (w.goal.concl ∷ []) [] + 3) is (omega arith) (omega (arith, concl_height w)) a (absurd_last w l rest e b) chain
+absurd_closes w l v reached rest p is e vars a b chain =
+    let b1 = subst (λ n. Proves Every (entail n (of_kind l.kind (Assert pure.False)) w.goal.concl) [] 3 (deepest (w.goal.concl ∷ []) [] + 3) n rest) vars b in
+    closes w l reached rest p 3 (deepest (w.goal.concl ∷ []) [] + 3) is (omega arith) (omega (arith, concl_height w)) a (absurd_last w l rest e b1) chain
 
 absurd_row : (w : Work) (l : Held) → IsLast w l → table.absurd_held w ≡ require_plain (table.is_falsehood l.formula) NotFalsehood closed
 absurd_row w l is = with_last_is w (λ hand. require_plain (table.is_falsehood hand.last.formula) NotFalsehood closed) l is

@@ -48,13 +48,16 @@ pub spat_stays : (w : Work) (l : Held) (r : Result (Parts Place) StepFault) → 
 spat_stays w l r is e stays = spat_given w l r is (subst (λ x. GivesOne w x r) (sym (relast_same w l Spat is e)) (stays (all_nodes (work_formulas w))))
 
 -- the rule of the box
-pub unbox_says : (w : Work) (l : Held) (by : Tree) (n d k : ℕ) → l.kind ≡ Int → Proves Every (entail (length w.goal.vars) (view.Pers l.formula) l.formula) [] n d k by → conclusion by ≡ last_says w l Spat l.formula
-unbox_says w l by n d k e p = p.concludes ∙ ap (λ x. entail (length w.goal.vars) (of_kind x l.formula) l.formula) (sym e)
+pub unbox_says : (w : Work) (l : Held) (v : ℕ) (f : Formula) (by : Tree) (n d k : ℕ) → v ≡ length w.goal.vars → f ≡ l.formula → l.kind ≡ Int → Proves Every (entail v (view.Pers l.formula) l.formula) [] n d k by → conclusion by ≡ last_says w l Spat f
+unbox_says w l v f by n d k vars same e p =
+    p.concludes ∙ ap (λ x. entail x (view.Pers l.formula) l.formula) vars ∙ ap₂ (λ x y. entail (length w.goal.vars) (of_kind x l.formula) y) (sym e) (sym same)
 
-pub unbox_given : (w : Work) (l : Held) (by : Tree) (r : Result (Parts Place) StepFault) → IsLast w l
-    → Proves Every (entail (length w.goal.vars) (view.Pers l.formula) l.formula) [] 1 (deepest (l.formula ∷ []) [] + 1) (length w.goal.vars) by
-    → BecomesOne w (relast w Spat l.formula) by r → GivesOne w (relast w Spat l.formula) r
-unbox_given w l by r is p b =
+pub unbox_given : (w : Work) (l : Held) (v : ℕ) (f : Formula) (by : Tree) (r : Result (Parts Place) StepFault) → IsLast w l → v ≡ length w.goal.vars → f ≡ l.formula
+    → Proves Every (entail v (view.Pers l.formula) l.formula) [] 1 (deepest (l.formula ∷ []) [] + 1) v by
+    → BecomesOne w (relast w Spat f) by r → GivesOne w (relast w Spat l.formula) r
+unbox_given w l v f by r is vars same q b1 =
+    let b : BecomesOne w (relast w Spat l.formula) by r = subst (λ x. BecomesOne w (relast w Spat x) by r) same b1 in
+    let p : Proves Every (entail (length w.goal.vars) (view.Pers l.formula) l.formula) [] 1 (deepest (l.formula ∷ []) [] + 1) (length w.goal.vars) by = subst (λ x. Proves Every (entail x (view.Pers l.formula) l.formula) [] 1 (deepest (l.formula ∷ []) [] + 1) x by) vars q in
     b 1 (deepest (l.formula ∷ []) [] + 1)
     (subst (λ e. Proves Every e [] 1 (deepest (l.formula ∷ []) [] + 1) (width w) by) (sym p.concludes) (weaker Every (entail (length w.goal.vars) (view.Pers l.formula) l.formula) [] 1 (deepest (l.formula ∷ []) [] + 1) (length w.goal.vars) 1 (deepest (l.formula ∷ []) [] + 1) (width w) by (omega arith) (omega arith) (omega arith) p))
     (omega arith)

@@ -45,11 +45,11 @@ pub named_star : (w : Work) (l : Held) (name : Named) → IsLast w l → star (m
 named_star w l name is = star_is (named w l name) (moved (work_parts w) (last_place w) (end_of l.kind w.goal)) (named_parts w l name is)
 
 -- a move to where it is named
-pub named_moves : (w : Work) (l : Held) (name : Named) (place : ℕ) (p : Tree) → IsLast w l → place ≡ end_of l.kind w.goal
-    → Moves (length w.goal.vars) (length (work_parts w)) (left_of_work w) (star (moved (work_parts w) (last_place w) place)) p
+pub named_moves : (w : Work) (l : Held) (name : Named) (from place : ℕ) (p : Tree) → IsLast w l → from ≡ last_place w → place ≡ end_of l.kind w.goal
+    → Moves (length w.goal.vars) (length (work_parts w)) (left_of_work w) (star (moved (work_parts w) from place)) p
     → Moves (length w.goal.vars) (length (work_parts w)) (left_of_work w) (left_of_work (named w l name)) p
-named_moves w l name place p is at m =
-    subst (λ r. Moves (length w.goal.vars) (length (work_parts w)) (left_of_work w) r p) (ap (λ n. star (moved (work_parts w) (last_place w) n)) at ∙ named_star w l name is) m
+named_moves w l name from place p is from_is at m =
+    subst (λ r. Moves (length w.goal.vars) (length (work_parts w)) (left_of_work w) r p) (ap₂ (λ i n. star (moved (work_parts w) i n)) from_is at ∙ named_star w l name is) m
 
 pub end_inside : (w : Work) (l : Held) → IsLast w l → end_of l.kind w.goal < length (work_parts w)
 end_inside w l is = omega (arith, end_within l.kind w.goal, last_within w l is)

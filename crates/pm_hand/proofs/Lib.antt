@@ -3,11 +3,7 @@ pub mod Sizes
 pub mod Answered
 pub mod Lasts
 pub mod Names
-pub mod Lists
-pub mod Lookups
 pub mod Relasts
 pub mod Kinded
 pub mod Contradicted
 pub mod Known
-pub mod Handing
-pub mod Takes

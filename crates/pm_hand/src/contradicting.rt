@@ -32,7 +32,8 @@ fn to_last(alloc: Global, work: &Work, held: &Held) -> Result<Proof, Memory>
     ensures { IfOk result (λ p. FromStar work.now (of_kind held.now.kind held.now.formula) p) }
 {
     let front = bring_front_held(alloc, work, last_place(work))?;
-    first(alloc, front)
+    let proof = first(alloc, front)?;
+    Ok(proof)
 }
 
 /// From the star to the conclusion, over the contradiction last in hand.
@@ -46,7 +47,8 @@ fn close(alloc: Global, work: &Work, held: &Held) -> Result<Proof, Memory>
     let reached = to_last(alloc, work, held)?;
     let vars = work.goal.vars.len() as u32;
     let rest = from_absurd(alloc, vars, held.kind, &work.goal.concl)?;
-    compose(alloc, reached, rest)
+    let proof = compose(alloc, reached, rest)?;
+    Ok(proof)
 }
 
 /// `[]`: what is last in hand is falsehood, and the goal is closed.

@@ -1,7 +1,8 @@
 //! What is last in hand becomes spatial or intuitionistic.
 
-ghost use Rattle.std.specs.Prelude.{◌≡◌, ◌<◌, length};
+ghost use Rattle.std.specs.Prelude.{◌≡◌, ◌<◌, Some, length};
 ghost use Rattle.pm_goal.specs.declared.work.Kind.TheVariants as kind;
+ghost use Rattle.pm_classes.specs.Entries.{PersistentAnswer};
 ghost use Rattle.pm_table.specs.Limits.{all_nodes, work_formulas, limited};
 ghost use Rattle.pm_table.specs.Destructs as table;
 ghost use Rattle.pm_action.specs.Acting.{Answers, IsHanded, IsLast};
@@ -44,6 +45,19 @@ pub fn to_spat(alloc: Global, work: &Work) -> Result<Parts<Place>, StepFault>
     }
 }
 
+/// What is last in hand becomes the formula of its entry, as intuitionistic.
+fn enter(alloc: Global, work: &Work, held: &Held, entry: One) -> Result<Parts<Place>, StepFault>
+    requires handed { IsHanded work.now }
+    requires some { 0 < length work.now.held }
+    requires last { IsLast work.now held.now }
+    requires spat { held.now.kind ≡ kind.Spat }
+    requires entry { PersistentAnswer (length work.now.goal.vars) held.now.formula (Some entry) }
+    ensures { Answers (all_nodes (work_formulas work.now)) work.now (limited (boxing work.now held.now)) result }
+{
+    let One { formula, proof } = entry;
+    become_one(alloc, work, held, Kind::Int, formula, proof)
+}
+
 /// A spatial one that is persistent becomes intuitionistic.
 fn box_it(alloc: Global, work: &Work, held: &Held) -> Result<Parts<Place>, StepFault>
     requires handed { IsHanded work.now }
@@ -53,8 +67,9 @@ fn box_it(alloc: Global, work: &Work, held: &Held) -> Result<Parts<Place>, StepF
     ensures { Answers (all_nodes (work_formulas work.now)) work.now (limited (boxing work.now held.now)) result }
 {
     let vars = work.goal.vars.len() as u32;
-    match into_persistent(alloc, vars, &held.formula)? {
-        Some(One { formula, proof }) => { become_one(alloc, work, held, Kind::Int, formula, proof) }
+    let found = into_persistent(alloc, vars, &held.formula)?;
+    match found {
+        Some(entry) => enter(alloc, work, held, entry),
         None => Err(refuse_plain(Row::NotPersistent)),
     }
 }

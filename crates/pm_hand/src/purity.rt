@@ -1,6 +1,6 @@
 //! What is last in hand becomes a fact.
 
-ghost use Rattle.std.specs.Prelude.{◌≡◌, ◌<◌, IfOk, true, length};
+ghost use Rattle.std.specs.Prelude.{◌≡◌, ◌<◌, IfOk, Some, true, length};
 ghost use Rattle.pm_logic.specs.declared.formula.Formula.TheVariants.{Pure as Assert};
 ghost use Rattle.pm_goal.specs.declared.work.Kind.TheVariants as kind;
 ghost use Rattle.pm_goal.specs.Left.{left_of_work, of_kind};
@@ -79,7 +79,8 @@ fn moved(
     let fact = Formula::Pure(copy_pure(alloc, pure)?);
     let first = exchanged(alloc, work, held, Kind::Spat, &fact, by)?;
     let second = to_facts(alloc, work, name, pure)?;
-    compose(alloc, first, second)
+    let proof = compose(alloc, first, second)?;
+    Ok(proof)
 }
 
 /// The work in which what `by` proves of what is last in hand is a fact of the name, in place of the old one.
@@ -113,6 +114,25 @@ fn entry_of(alloc: Global, work: &Work, held: &Held) -> Result<Option<OnePure>, 
     into_pure(alloc, vars, &part)
 }
 
+/// What is last in hand becomes the fact of its entry.
+fn enter(
+    alloc: Global,
+    work: &Work,
+    held: &Held,
+    name: &Name,
+    entry: OnePure,
+) -> Result<Parts<Place>, StepFault>
+    requires handed { IsHanded work.now }
+    requires some { 0 < length work.now.held }
+    requires last { IsLast work.now held.now }
+    requires free { fits work.now.goal name.now ≡ true }
+    requires entry { IntoPureAnswer (length work.now.goal.vars) (of_kind held.now.kind held.now.formula) (Some entry) }
+    ensures { Answers (all_nodes (work_formulas work.now)) work.now (limited (table.to_pure name.now work.now)) result }
+{
+    let OnePure { pure, proof } = entry;
+    make_known(alloc, work, held, name, &pure, proof)
+}
+
 /// `%H`: what is last in hand becomes a fact of the name, last of the facts.
 ///
 /// It is refused where it isn't pure, where the name is in use, or is `_` and digits, and where the work passes a limit.
@@ -122,13 +142,14 @@ pub fn to_pure(alloc: Global, work: &Work, name: &Name) -> Result<Parts<Place>, 
     ensures { Answers (all_nodes (work_formulas work.now)) work.now (limited (table.to_pure name.now work.now)) result }
 {
     let held = last(work);
-    let Some(OnePure { pure, proof }) = entry_of(alloc, work, held)? else {
+    let found = entry_of(alloc, work, held)?;
+    let Some(entry) = found else {
         return Err(refuse_plain(Row::NotPure));
     };
     if !is_free(&work.goal, name) {
         return Err(refuse(alloc, Row::NameInUse, name));
     }
-    make_known(alloc, work, held, name, &pure, proof)
+    enter(alloc, work, held, name, entry)
 }
 
 /// `%?`: what is last in hand becomes a fact of a name that the goal doesn't have, as by `to_pure`.
