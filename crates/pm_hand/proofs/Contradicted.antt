@@ -1,6 +1,6 @@
 -- From a star to one of its parts, and what falsehood in hand answers.
-use Rattle.std.proofs.Common.{◌≡◌, ℕ, zero, suc, ◌+◌, ◌*◌, ◌<◌, ◌≤◌, max, true, false, List, [], ◌∷◌, ◌++◌, length, remove, refl, sym, ◌∙◌, ap, ap₂, subst, arith, Option, Some, None}
-use Rattle.std.specs.Prelude.{Result, Ok, Err}
+use Rattle.std.proofs.Common.{◌≡◌, ℕ, zero, suc, ◌+◌, ◌*◌, ◌≤◌, max, true, false, List, [], ◌∷◌, length, refl, sym, ◌∙◌, ap, ap₂, subst, arith}
+use Rattle.std.specs.Prelude.{Result, Err}
 use Rattle.pm_logic.specs.declared.formula.Pure.TheVariants as pure
 use Rattle.pm_logic.specs.declared.formula.Formula.{Formula}
 use Rattle.pm_logic.specs.declared.formula.Formula.TheVariants.{Pure as Assert}
@@ -9,7 +9,6 @@ use Rattle.pm_logic.specs.Size.{depth_of}
 use Rattle.pm_rules.specs.declared.pattern.Binary.TheVariants as binary
 use Rattle.pm_rules.specs.declared.rules.Entail.{Entail}
 use Rattle.pm_rules.proofs.Matched.{two_same}
-use Rattle.pm_goal.specs.declared.work.Kind.{Kind}
 use Rattle.pm_goal.specs.declared.work.Held.{Held}
 use Rattle.pm_goal.specs.declared.work.Work.{Work}
 use Rattle.pm_goal.specs.declared.refusal.Row.TheVariants.{NotFalsehood}
@@ -32,7 +31,7 @@ use Rattle.pm_table.specs.Limits.{limited, all_nodes, work_formulas}
 use Rattle.pm_table.specs.Running.{rules_within}
 use Rattle.pm_table.specs.Destructs as table
 use Rattle.pm_action.specs.Meanings.{meaning, height, room, width}
-use Rattle.pm_action.specs.Acting.{Answers, Ends, IsActed, IsHanded, IsLast, last_place, plainly}
+use Rattle.pm_action.specs.Acting.{Answers, Ends, IsActed, IsLast, last_place, plainly}
 use Rattle.pm_action.proofs.Heights.{star_height, concl_height, parts_nodes}
 use Rattle.pm_action.proofs.Hands.{with_last_is, part_last, last_within}
 use Rattle.pm_action.proofs.Moves.{few}

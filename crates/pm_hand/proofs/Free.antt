@@ -1,5 +1,5 @@
 -- A name that is free is in no context.
-use Rattle.std.proofs.Common.{◌≡◌, ℕ, ◌-◌, Bool, true, not, ◌||◌, is_some, length, position, bytes_eq, Option, Some, None, option_map, refl}
+use Rattle.std.proofs.Common.{◌≡◌, ◌-◌, Bool, true, not, ◌||◌, is_some, length, position, bytes_eq, Option, Some, None, option_map, refl}
 use Rattle.pm_goal.specs.declared.goal.Hyp.{Hyp}
 use Rattle.pm_goal.specs.declared.goal.Fact.{Fact}
 use Rattle.pm_goal.specs.declared.goal.Goal.{Goal}

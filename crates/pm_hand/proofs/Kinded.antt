@@ -1,6 +1,6 @@
 -- What changing the kind of the last in hand answers.
-use Rattle.std.proofs.Common.{◌≡◌, ℕ, suc, ◌+◌, ◌*◌, ◌<◌, ◌≤◌, max, List, [], ◌∷◌, ◌++◌, length, refl, sym, ◌∙◌, ap, ap₂, subst, arith, Option, Some, None}
-use Rattle.std.specs.Prelude.{Result, Ok, Err}
+use Rattle.std.proofs.Common.{◌≡◌, ℕ, ◌+◌, ◌*◌, [], ◌∷◌, ◌++◌, length, refl, sym, ◌∙◌, ap, ap₂, subst, arith, Option, Some, None}
+use Rattle.std.specs.Prelude.{Result, Err}
 use Rattle.pm_logic.specs.declared.formula.Formula.{Formula}
 use Rattle.pm_logic.specs.declared.formula.Formula.TheViews as view
 use Rattle.pm_logic.specs.Size.{depth_of, nodes_of}
@@ -26,7 +26,7 @@ use Rattle.pm_table.specs.Outcomes.{one, require_entry}
 use Rattle.pm_table.specs.Limits.{limited, all_nodes, work_formulas}
 use Rattle.pm_table.specs.Works.{holding, work_of}
 use Rattle.pm_table.specs.Destructs as table
-use Rattle.pm_action.specs.Meanings.{room, width}
+use Rattle.pm_action.specs.Meanings.{width}
 use Rattle.pm_action.specs.Acting.{Answers, IsHanded, IsLast, StaysAs, all_but_last, plainly}
 use Rattle.pm_action.proofs.Hands.{with_last_is, held_is}
 use Rattle.pm_hand.specs.Changed.{relast, last_says, boxing, GivesOne, BecomesOne}

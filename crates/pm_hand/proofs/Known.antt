@@ -1,6 +1,6 @@
 -- What making a fact of the last in hand answers.
 use Rattle.std.proofs.Common.{◌≡◌, ℕ, zero, suc, ◌+◌, ◌*◌, ◌<◌, ◌≤◌, max, true, false, List, [], ◌∷◌, ◌++◌, length, length-append, map, insert, set, inl, inr, refl, sym, ◌∙◌, ap, ap₂, subst, arith, Option, Some, None}
-use Rattle.std.specs.Prelude.{Result, Ok, Err}
+use Rattle.std.specs.Prelude.{Result, Err}
 use Rattle.std.specs.List.{AllByRecursion}
 use Rattle.pm_logic.specs.declared.formula.Pure.{Pure}
 use Rattle.pm_logic.specs.declared.formula.Formula.{Formula}
@@ -10,9 +10,7 @@ use Rattle.pm_logic.specs.Size.{depth_of, nodes_of}
 use Rattle.pm_logic.specs.Scope.{Scoped}
 use Rattle.pm_logic.proofs.Sizes.{nodes_modal}
 use Rattle.pm_rules.specs.declared.rules.Entail.{Entail}
-use Rattle.pm_goal.specs.declared.goal.Hyp.{Hyp}
 use Rattle.pm_goal.specs.declared.goal.Fact.{Fact}
-use Rattle.pm_goal.specs.declared.goal.Goal.{Goal}
 use Rattle.pm_goal.specs.declared.work.Kind.{Kind}
 use Rattle.pm_goal.specs.declared.work.Kind.TheVariants.{Int, Spat}
 use Rattle.pm_goal.specs.declared.work.Held.{Held}
@@ -26,7 +24,7 @@ use Rattle.pm_proof.specs.Valid.{EntailScoped}
 use Rattle.pm_proof.specs.Known.{Proves, Extends, Every, ScopedWhere}
 use Rattle.pm_proof.specs.declared.proof.Parts.{Parts}
 use Rattle.pm_proof.proofs.Fills.{weaker, extends_weaker, extends_proves}
-use Rattle.pm_star.specs.Stars.{star, parts, work_parts, part_at, room as star_room, Moves, MovesBy}
+use Rattle.pm_star.specs.Stars.{star, work_parts, part_at, room as star_room, Moves, MovesBy}
 use Rattle.pm_star.specs.Chains.{Follows, ChainProves, across, moved}
 use Rattle.pm_star.proofs.Contexts.{work_star}
 use Rattle.pm_star.proofs.Scoping.{star_scoped, scoped_star, depth_box}

@@ -1,5 +1,5 @@
 -- The star of a work whose last in hand goes to another place.
-use Rattle.std.proofs.Common.{◌≡◌, ℕ, zero, suc, ◌+◌, ◌-◌, ◌<◌, ◌≤◌, List, [], ◌∷◌, ◌++◌, length, length-append, refl, sym, ◌∙◌, ap, ap₂, subst, arith, insert}
+use Rattle.std.proofs.Common.{◌≡◌, ℕ, ◌+◌, ◌<◌, ◌≤◌, List, length, length-append, refl, sym, ◌∙◌, ap, ap₂, subst, arith, insert}
 use Rattle.std.proofs.lemmas.List.{length-map}
 use Rattle.pm_logic.specs.declared.formula.Formula.{Formula}
 use Rattle.pm_logic.specs.declared.formula.Formula.TheVariants.{Pure as Assert}
@@ -10,9 +10,9 @@ use Rattle.pm_goal.specs.declared.work.Kind.{Kind}
 use Rattle.pm_goal.specs.declared.work.Kind.TheVariants as kind
 use Rattle.pm_goal.specs.declared.work.Held.{Held}
 use Rattle.pm_goal.specs.declared.work.Work.{Work}
-use Rattle.pm_goal.specs.Left.{of_kind, facts, hyps_as, hyps, held_parts, left_of_work}
+use Rattle.pm_goal.specs.Left.{of_kind, facts, hyps_as, hyps, left_of_work}
 use Rattle.pm_proof.specs.Trees.{Tree}
-use Rattle.pm_star.specs.Stars.{star, shared, parts, work_parts, part_at, without, Moves}
+use Rattle.pm_star.specs.Stars.{star, shared, parts, work_parts, Moves}
 use Rattle.pm_star.specs.Chains.{moved}
 use Rattle.pm_star.proofs.Places.{gains_int, gains_spat}
 use Rattle.pm_table.specs.Works.{Named, hyp, work_of, with_hyp}

@@ -1,9 +1,8 @@
 -- What giving a name answers.
-use Rattle.std.proofs.Common.{◌≡◌, ℕ, ◌≤◌, true, false, length, refl, sym, ◌∙◌, ap, subst, le_refl, arith}
-use Rattle.std.specs.Prelude.{Result, Ok, Err}
+use Rattle.std.proofs.Common.{◌≡◌, true, false, length, sym, ◌∙◌, ap, subst, le_refl}
+use Rattle.std.specs.Prelude.{Result, Err}
 use Rattle.pm_goal.specs.declared.work.Held.{Held}
 use Rattle.pm_goal.specs.declared.work.Work.{Work}
-use Rattle.pm_goal.specs.declared.refusal.Row.{Row}
 use Rattle.pm_goal.specs.declared.refusal.Row.TheVariants.{NameInUse}
 use Rattle.pm_goal.specs.declared.refusal.StepFault.{StepFault}
 use Rattle.pm_goal.specs.Left.{left_of_work}
@@ -15,7 +14,7 @@ use Rattle.pm_table.specs.Outcomes.{one, require}
 use Rattle.pm_table.specs.Limits.{limited, all_nodes, work_formulas}
 use Rattle.pm_table.specs.Works.{Named, fits, with_hyp, work_of}
 use Rattle.pm_table.specs.Destructs as table
-use Rattle.pm_action.specs.Acting.{Answers, Refuses, IsLast, MovesTo, all_but_last}
+use Rattle.pm_action.specs.Acting.{Answers, Refuses, IsLast, MovesTo}
 use Rattle.pm_action.proofs.Hands.{with_last_is}
 use Rattle.pm_action.proofs.Moves.{moves_answer}
 use Rattle.pm_hand.specs.Changed.{named, GivesOne}

@@ -1,8 +1,8 @@
 -- Works whose last in hand is gone, or is another formula.
-use Rattle.std.proofs.Common.{◌≡◌, ℕ, zero, suc, ◌+◌, ◌-◌, ◌*◌, ◌<◌, ◌≤◌, max, List, [], ◌∷◌, ◌++◌, length, length-append, map, take, set, refl, sym, ◌∙◌, ap, ap₂, subst, arith, Option, Some, None, slice_get, le_refl}
+use Rattle.std.proofs.Common.{◌≡◌, ℕ, zero, suc, ◌+◌, ◌-◌, ◌<◌, ◌≤◌, List, [], ◌∷◌, ◌++◌, length, length-append, map, take, set, refl, sym, ◌∙◌, ap, ap₂, subst, arith, Option, Some, None, slice_get, le_refl}
 use Rattle.std.specs.Prelude.{Result}
 use Rattle.std.specs.List.{AllByRecursion}
-use Rattle.std.proofs.lemmas.List.{length-map, append-nil}
+use Rattle.std.proofs.lemmas.List.{append-nil}
 use Rattle.pm_logic.specs.declared.formula.Formula.{Formula}
 use Rattle.pm_logic.specs.declared.formula.Preds.{Preds}
 use Rattle.pm_logic.specs.Scope.{Scoped, ScopedIn}
@@ -15,7 +15,7 @@ use Rattle.pm_rules.specs.declared.rules.Entail.{Entail}
 use Rattle.pm_goal.specs.Left.{of_kind, held_parts, left_of_work}
 use Rattle.pm_proof.specs.Trees.{Tree, entail, conclusion}
 use Rattle.pm_proof.specs.Valid.{EntailScoped}
-use Rattle.pm_proof.specs.Known.{Proves, Every, ScopedWhere}
+use Rattle.pm_proof.specs.Known.{ScopedWhere}
 use Rattle.pm_proof.specs.declared.proof.Parts.{Parts}
 use Rattle.pm_star.specs.Stars.{star, parts, work_parts, part_at, without, Moves, MovesBy}
 use Rattle.pm_star.specs.Levels.{left_side, right_side}
@@ -23,18 +23,16 @@ use Rattle.pm_star.proofs.Contexts.{work_star}
 use Rattle.pm_star.proofs.Scoping.{scoped_star, part_scoped}
 use Rattle.pm_star.proofs.Places.{held_at}
 use Rattle.pm_table.specs.declared.place.Place.{Place}
-use Rattle.pm_table.specs.declared.place.Place.TheVariants.{Current as current}
 use Rattle.pm_table.specs.Outcomes.{one}
 use Rattle.pm_table.specs.Limits.{limited, formulas, all_nodes, greatest_depth, work_formulas}
 use Rattle.pm_table.specs.Works.{Hand, behind, hand_or, hand_of, holding, work_of}
 use Rattle.pm_table.specs.Destructs as table
-use Rattle.pm_action.specs.Meanings.{height, room, width}
 use Rattle.pm_action.specs.Acting.{Answers, IsLast, MovesTo, all_but_last, last_place}
 use Rattle.pm_action.proofs.Sums.{nodes_append, depth_append}
 use Rattle.pm_action.proofs.Filtered.{in_hand}
 use Rattle.pm_action.proofs.Hands.{with_last_is, held_is, without_last, part_last, star_is}
 use Rattle.pm_action.proofs.Moves.{moves_by_answer}
-use Rattle.pm_hand.specs.Changed.{dropped, relast, last_says, GivesOne, BecomesOne}
+use Rattle.pm_hand.specs.Changed.{dropped, relast, last_says, BecomesOne}
 use Rattle.pm_hand.proofs.Names.{moved_gives}
 
 -- ---- something is last in hand

@@ -1,11 +1,9 @@
 -- What a work that is handed to an action has few of.
-use Rattle.std.proofs.Common.{◌≡◌, ℕ, ◌+◌, ◌<◌, ◌≤◌, ◌^◌, length, arith}
+use Rattle.std.proofs.Common.{◌+◌, ◌<◌, ◌^◌, length, arith}
 use Rattle.pm_goal.specs.declared.work.Work.{Work}
 use Rattle.pm_table.specs.Limits.{hypotheses}
-use Rattle.pm_star.specs.Stars.{work_parts}
 use Rattle.pm_action.specs.Acting.{IsHanded}
 use Rattle.pm_action.specs.Naming.{IsFindable}
-use Rattle.pm_action.proofs.Heights.{parts_are}
 
 pub findable : (w : Work) → IsHanded w → IsFindable w.goal
 findable w h = record { vars = omega (arith, h.few); pures = omega (arith, h.few); ints = omega (arith, h.few); spats = omega (arith, h.few) }
