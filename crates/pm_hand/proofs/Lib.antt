@@ -1,0 +1,9 @@
+pub mod Free
+pub mod Sizes
+pub mod Answered
+pub mod Lasts
+pub mod Names
+pub mod Relasts
+pub mod Kinded
+pub mod Contradicted
+pub mod Known

@@ -1,0 +1,16 @@
+//! Actions on what is in hand: each is a row of the directive table, with a proof.
+#![tactic(auto)]
+
+mod contradicting;
+mod dropping;
+mod kinds;
+mod naming;
+mod purity;
+mod replacing;
+mod steps;
+
+pub use contradicting::absurd_held;
+pub use dropping::drop_held;
+pub use kinds::{to_int, to_spat};
+pub use naming::{name_fresh, name_held};
+pub use purity::{to_pure, to_pure_fresh};
