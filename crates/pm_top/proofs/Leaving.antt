@@ -1,5 +1,5 @@
 -- What a run leaves at the sink.
-use Rattle.std.proofs.Common.{◌≡◌, ℕ, ◌≤◌, List, length, refl, sym, subst, arith, Option, Some, None, inr}
+use Rattle.std.proofs.Common.{◌≡◌, ℕ, ◌<◌, ◌≤◌, List, length, refl, sym, subst, arith, Option, Some, None, inr}
 use Rattle.std.specs.Io.KnownBytes.{Appends}
 use Rattle.pm_io.specs.Taken.{TakesAll, HasMoreThan, AppendsFront}
 use Rattle.pm_logic.specs.declared.formula.Pred.{Pred}
@@ -21,7 +21,7 @@ use Rattle.pm_top.proofs.RunAnswers.{one_run_answer, accepted_done, run_truth}
 -- ---- what is defined
 
 script_long : (command : Command) → ReadsScripts command → (bytes : List ℕ) → 16777216 < length bytes → IsLong command bytes
-script_long Check no bytes long = absurd no
+script_long Check never bytes long = absurd never
 script_long Run some bytes long = long
 script_long Goals some bytes long = long
 
@@ -30,7 +30,7 @@ defines_long command some None h = Defines.too_long command None tt
 defines_long command some (Some bytes) h = Defines.too_long command (Some bytes) (script_long command some bytes h)
 
 script_short : (command : Command) → ReadsScripts command → (bytes : List ℕ) → length bytes ≤ 16777216 → length bytes ≤ longest command
-script_short Check no bytes short = absurd no
+script_short Check never bytes short = absurd never
 script_short Run some bytes short = short
 script_short Goals some bytes short = short
 

@@ -1,5 +1,5 @@
 -- What `goals` answers to an input: there is one status and one text.
-use Rattle.std.proofs.Common.{◌≡◌, ℕ, zero, suc, ◌+◌, ◌<◌, ◌≤◌, max, List, [], ◌∷◌, ◌++◌, length, take, get_or, refl, sym, ◌∙◌, ap, ap₂, subst, append_assoc, add-one, arith, Option, Some, None}
+use Rattle.std.proofs.Common.{◌≡◌, ℕ, zero, suc, ◌+◌, ◌<◌, ◌≤◌, max, List, [], ◌∷◌, ◌++◌, length, take, get_or, refl, sym, ◌∙◌, ap, ap₂, subst, append_assoc, arith, Option, Some, None}
 use Rattle.std.specs.Prelude.{All}
 use Rattle.std.proofs.lemmas.List.{append-nil}
 use Rattle.std.proofs.lemmas.List.Elements.{All-nil}
@@ -30,25 +30,30 @@ one_shown bytes s r text line h k =
 
 -- ---- goals one after the other
 
-pub no_goals : (preds : List Pred) (k : ℕ) → numbered_goals preds k [] ≡ []
-unfolding numbered_goals
-no_goals preds k = refl
-
-next_goal : (preds : List Pred) (k : ℕ) (gs : List Goal) (i : ℕ) (g : Goal) → i < length gs → g ≡ get_or gs i g → numbered_goals preds k (take (i + 1) gs) ≡ numbered_goals preds k (take i gs) ++ numbered_goal preds (i + k) g
+next_goal : (preds : List Pred) (k : ℕ) (gs : List Goal) (i : ℕ) (g : Goal) → i < length gs → g ≡ get_or gs i g → numbered_goals preds k (take (suc i) gs) ≡ numbered_goals preds k (take i gs) ++ numbered_goal preds (i + k) g
 unfolding numbered_goals
 next_goal preds k [] i g lt is = absurd (omega (arith, lt))
 next_goal preds k (x ∷ gs) zero g lt is =
-    let at : 0 + k ≡ k = omega arith in
-    rw at (append-nil (numbered_goal preds k x) ∙ ap (numbered_goal preds k) (sym is))
+    let at : k ≡ 0 + k = omega arith in
+    append-nil (numbered_goal preds k x) ∙ ap₂ (numbered_goal preds) at (sym is)
 next_goal preds k (x ∷ gs) (suc i) g lt is =
     let at : i + (k + 1) ≡ suc i + k = omega arith in
-    rw add-one (ap (λ (ls : List ℕ). numbered_goal preds k x ++ ls) (rw (add-one {i}) at (next_goal preds (k + 1) gs i g (omega (arith, lt)) is))
+    ap (λ (ls : List ℕ). numbered_goal preds k x ++ ls) (next_goal preds (k + 1) gs i g (omega (arith, lt)) is)
     ∙ sym (append_assoc (numbered_goal preds k x) (numbered_goals preds (k + 1) (take i gs)) (numbered_goal preds (i + (k + 1)) g))
-    ∙ ap (λ (n : ℕ). (numbered_goal preds k x ++ numbered_goals preds (k + 1) (take i gs)) ++ numbered_goal preds n g) at)
+    ∙ ap (λ (n : ℕ). (numbered_goal preds k x ++ numbered_goals preds (k + 1) (take i gs)) ++ numbered_goal preds n g) at
+
+pub none_added : (preds : List Pred) (t : List ℕ) → t ≡ t ++ numbered_goals preds 1 []
+unfolding numbered_goals
+none_added preds t = sym (append-nil t)
 
 -- one goal more behind the first ones
 pub goal_added : (preds : List Pred) (gs : List Goal) (i : ℕ) (g : Goal) (t₀ t₁ t₂ : List ℕ) → i < length gs → g ≡ get_or gs i g → t₁ ≡ t₀ ++ numbered_goals preds 1 (take i gs) → t₂ ≡ t₁ ++ numbered_goal preds (i + 1) g → t₂ ≡ t₀ ++ numbered_goals preds 1 (take (i + 1) gs)
-goal_added preds gs i g t₀ t₁ t₂ lt is h₁ h₂ = h₂ ∙ rw (h₁, next_goal preds 1 gs i g lt is) (append_assoc t₀ (numbered_goals preds 1 (take i gs)) (numbered_goal preds (i + 1) g))
+goal_added preds gs i g t₀ t₁ t₂ lt is h₁ h₂ =
+    let at : suc i ≡ i + 1 = omega arith in
+    h₂ ∙ ap (λ (t : List ℕ). t ++ numbered_goal preds (i + 1) g) h₁
+    ∙ append_assoc t₀ (numbered_goals preds 1 (take i gs)) (numbered_goal preds (i + 1) g)
+    ∙ ap (λ (ls : List ℕ). t₀ ++ ls) (sym (next_goal preds 1 gs i g lt is))
+    ∙ ap (λ (n : ℕ). t₀ ++ numbered_goals preds 1 (take n gs)) at
 
 -- ---- goals within the limits can be printed
 
