@@ -1,0 +1,9 @@
+pub mod Sizes
+pub mod Tests
+pub mod Searches
+pub mod Places
+pub mod Found
+pub mod Named
+pub mod Exacts
+pub mod Taken
+pub mod Answering
