@@ -1,0 +1,5 @@
+pub mod Ending
+pub mod Choices
+pub mod Endings
+pub mod Naming
+pub mod Cleared

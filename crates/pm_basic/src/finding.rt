@@ -1,0 +1,25 @@
+//! Parts of a goal by name.
+
+ghost use Rattle.std.specs.Prelude.{◌≡◌, ◌+◌, ◌<◌, ◌^◌, length};
+ghost use Rattle.pm_basic.specs.Named.{place_named};
+
+use pm_goal::Goal;
+use pm_logic::Name;
+
+/// The place in the star of the hypothesis or fact of this name.
+pub fn place_named(goal: &Goal, name: &Name) -> Option<u32>
+    requires { length goal.now.pures + (length goal.now.ints + length goal.now.spats) < 2 ^ 32 }
+    ensures { result ≡ place_named name.now goal.now }
+{
+    let facts = goal.pures.len();
+    if let Some(i) = goal.spats.place(name) {
+        return Some((facts + goal.ints.len() + i) as u32);
+    }
+    if let Some(i) = goal.ints.place(name) {
+        return Some((facts + i) as u32);
+    }
+    match goal.pures.place(name) {
+        Some(i) => Some(i as u32),
+        None => None,
+    }
+}

@@ -1,0 +1,12 @@
+//! Actions on a goal with nothing in hand: each is a row of the directive table, with a proof.
+#![tactic(auto)]
+
+mod choosing;
+mod clearing;
+mod concluding;
+mod finding;
+mod rules;
+mod steps;
+
+pub use choosing::{exfalso, exists, side};
+pub use clearing::clear;
