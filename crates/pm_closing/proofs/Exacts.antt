@@ -1,5 +1,5 @@
 -- Whether what a name names gives the conclusion.
-use Rattle.std.proofs.Common.{◌≡◌, ◌↔◌, ℕ, ◌+◌, Bool, true, false, ◌||◌, length, refl, ap, ap₂, sym, subst, ◌∙◌, Option, Some, None, bytes_eq}
+use Rattle.std.proofs.Common.{◌≡◌, ◌↔◌, ℕ, ◌+◌, Bool, true, false, ◌||◌, length, ap, ap₂, sym, subst, ◌∙◌, Some, None, bytes_eq}
 use Rattle.std.specs.Prelude.{IsTrue, slice_get, option_map, position}
 use Rattle.std.proofs.lemmas.Bool.Decides.{same_from_decides}
 use Rattle.pm_logic.specs.declared.formula.Pure.{Pure}

@@ -1,5 +1,5 @@
 -- What a name names, by the place at which it is found.
-use Rattle.std.proofs.Common.{◌≡◌, ℕ, zero, suc, ◌+◌, ◌<◌, Bool, true, false, cond, ◌||◌, List, [], ◌∷◌, refl, ap, ap₂, sym, subst, ◌∙◌, arith, Option, Some, None, bytes_eq}
+use Rattle.std.proofs.Common.{◌≡◌, ℕ, suc, ◌+◌, Bool, true, false, cond, List, [], ◌∷◌, refl, ap, sym, ◌∙◌, arith, Option, Some, None, bytes_eq}
 use Rattle.std.specs.Prelude.{slice_get, option_map, position, is_some}
 use Rattle.std.specs.List.{position_from}
 use Rattle.std.proofs.lemmas.Iterator.Adapters.{position_from-zero}
@@ -7,10 +7,8 @@ use Rattle.pm_logic.specs.declared.formula.Pure.{Pure}
 use Rattle.pm_logic.specs.declared.formula.Formula.{Formula}
 use Rattle.pm_goal.specs.declared.goal.Hyp.{Hyp}
 use Rattle.pm_goal.specs.declared.goal.Fact.{Fact}
-use Rattle.pm_goal.specs.declared.goal.Goal.{Goal}
-use Rattle.pm_table.specs.Works.{Named, hyp_named, fact_named, has_hyp_or_fact}
+use Rattle.pm_table.specs.Works.{Named, hyp_named, fact_named}
 use Rattle.pm_table.specs.Basic.{passes}
-use Rattle.pm_closing.specs.Ways.{Tells}
 
 -- the step of a look-up at one item
 none_by : {B : Type 0} (b : Bool) (j : ℕ) (y : B) (o : Option B) (p : Option ℕ) → cond b (Some j) p ≡ None → (p ≡ None → o ≡ None) → cond b (Some y) o ≡ None

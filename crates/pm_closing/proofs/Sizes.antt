@@ -1,5 +1,5 @@
 -- What a work that is handed to an action has few of.
-use Rattle.std.proofs.Common.{◌≡◌, ℕ, ◌+◌, ◌<◌, ◌≤◌, ◌^◌, length, arith}
+use Rattle.std.proofs.Common.{◌<◌, ◌≤◌, ◌^◌, length, arith}
 use Rattle.pm_logic.specs.declared.formula.TheConstants.{BOUND}
 use Rattle.pm_goal.specs.declared.work.Work.{Work}
 use Rattle.pm_star.specs.Scopes.{goal_count}

@@ -1,30 +1,23 @@
 -- Proofs of what a part of the star gives.
-use Rattle.std.proofs.Common.{◌≡◌, ℕ, zero, suc, ◌+◌, ◌*◌, ◌<◌, ◌≤◌, max, List, [], ◌∷◌, ◌++◌, length, refl, sym, ◌∙◌, ap, ap₂, subst, arith}
-use Rattle.std.specs.Prelude.{Result}
+use Rattle.std.proofs.Common.{◌≡◌, ℕ, zero, suc, ◌+◌, ◌*◌, ◌<◌, ◌≤◌, max, List, [], ◌∷◌, length, refl, sym, ◌∙◌, ap, subst, arith}
 use Rattle.pm_logic.specs.declared.formula.Formula.{Formula}
-use Rattle.pm_logic.specs.declared.formula.Formula.TheVariants.{Pure as Assert}
 use Rattle.pm_logic.specs.declared.formula.Formula.TheViews as view
-use Rattle.pm_logic.specs.declared.formula.Pure.TheVariants as pure
 use Rattle.pm_logic.specs.declared.formula.Preds.{Preds}
 use Rattle.pm_logic.specs.Scope.{Scoped}
 use Rattle.pm_logic.specs.Size.{depth_of}
 use Rattle.pm_goal.specs.declared.work.Work.{Work}
-use Rattle.pm_goal.specs.declared.refusal.StepFault.{StepFault}
 use Rattle.pm_goal.specs.Left.{star_onto, left_of_work}
 use Rattle.pm_rules.specs.declared.rules.Entail.{Entail}
 use Rattle.pm_rules.specs.declared.pattern.Binary.TheVariants as binary
 use Rattle.pm_rules.proofs.Matched.{two_same}
 use Rattle.pm_proof.specs.Trees.{Tree, entail, conclusion}
 use Rattle.pm_proof.specs.Known.{Proves, Extends, Every, ScopedWhere, FillExtends}
-use Rattle.pm_proof.specs.declared.proof.Parts.{Parts}
 use Rattle.pm_proof.proofs.Fills.{weaker, extends_weaker, extends_proves}
 use Rattle.pm_schemes.specs.Sketches.{deepest}
 use Rattle.pm_star.specs.Stars.{star, work_parts, part_at, without, in_front, room as star_room, Moves}
 use Rattle.pm_star.specs.Chains.{ChainProves, across}
 use Rattle.pm_star.proofs.Contexts.{work_star}
 use Rattle.pm_star.proofs.Scoping.{front_scoped, part_scoped, scoped_star, depth_sep, part_deep}
-use Rattle.pm_table.specs.declared.place.Place.{Place}
-use Rattle.pm_table.specs.Outcomes.{gives}
 use Rattle.pm_table.specs.Limits.{work_formulas, all_nodes}
 use Rattle.pm_table.specs.Running.{rules_within}
 use Rattle.pm_action.specs.Meanings.{meaning, height, room, width}

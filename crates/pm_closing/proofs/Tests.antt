@@ -1,5 +1,5 @@
 -- What searches tell, put together, and tests of the items of lists.
-use Rattle.std.proofs.Common.{◌≡◌, ℕ, Bool, true, false, ◌||◌, List, [], ◌∷◌, refl, ap, ap₂, sym, subst, ◌∙◌, Option, Some, None}
+use Rattle.std.proofs.Common.{◌≡◌, Bool, true, false, ◌||◌, List, [], ◌∷◌, refl, ap, ap₂, sym, subst, ◌∙◌, Option, Some}
 use Rattle.std.specs.List.{list_any}
 use Rattle.pm_closing.specs.Ways.{Tells}
 

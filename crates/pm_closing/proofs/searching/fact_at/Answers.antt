@@ -1,4 +1,4 @@
-use Rattle.std.proofs.Common.{◌≡◌, ◌+◌, ◌<◌, ◌≤◌, length, refl, arith}
+use Rattle.std.proofs.Common.{◌+◌, ◌<◌, ◌≤◌, length, refl, arith}
 use Rattle.pm_goal.specs.declared.goal.Fact.{Fact}
 use Rattle.pm_table.specs.Equality.{pure_eq}
 use Rattle.pm_table.proofs.Equals.{pure_eq_decides}

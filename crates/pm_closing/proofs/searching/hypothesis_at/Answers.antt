@@ -1,4 +1,4 @@
-use Rattle.std.proofs.Common.{◌≡◌, ◌+◌, ◌<◌, ◌≤◌, length, refl, arith}
+use Rattle.std.proofs.Common.{◌+◌, ◌<◌, ◌≤◌, length, refl, arith}
 use Rattle.pm_goal.specs.declared.goal.Hyp.{Hyp}
 use Rattle.pm_table.specs.Equality.{formula_eq}
 use Rattle.pm_table.proofs.Equals.{formula_eq_decides}
