@@ -1,0 +1,31 @@
+//! Schemes with proofs at their gaps.
+
+ghost use Rattle.std.specs.Prelude.{◌≡◌, ◌+◌, [], ◌∷◌, map, IfOk, IsTrue};
+ghost use Rattle.pm_proof.specs.Trees.{conclusion};
+ghost use Rattle.pm_schemes.specs.Sketches.{claim, gaps, steps, height, deepest, entail_of};
+ghost use Rattle.pm_schemes.specs.Tests.{passes};
+ghost use Rattle.pm_schemes.specs.Read.{sketch_of, letters_of, formulas_of, pures_of};
+ghost use Rattle.pm_classes.specs.Closing.{is_stated};
+ghost use Rattle.pm_intro.specs.Closing.{Closes};
+
+use pm_logic::Memory;
+use pm_proof::Proof;
+use pm_schemes::{Letters, Scheme, derive};
+use std::alloc::Global;
+
+/// The scheme's proof, with this one at its gap. Each letter of the gap stands also in the scheme's sides.
+pub fn close(
+    alloc: Global,
+    vars: u32,
+    scheme: &Scheme,
+    letters: Letters,
+    inner: Proof,
+) -> Result<Proof, Memory>
+    requires passes { IsTrue (passes (sketch_of scheme.now)) }
+    requires stated { IsTrue (is_stated (sketch_of scheme.now)) }
+    requires gap { map (entail_of vars (letters_of letters)) (gaps (sketch_of scheme.now)) ≡ conclusion inner ∷ [] }
+    ensures { IfOk result (λ p. Closes inner (entail_of vars (letters_of letters.entry) (claim (sketch_of scheme.now))) (steps (sketch_of scheme.now)) (deepest (formulas_of letters.entry) (pures_of letters.entry) + height (sketch_of scheme.now)) vars p) }
+{
+    let step = derive(alloc, vars, scheme, letters)?;
+    Ok(step.fill(0, inner))
+}

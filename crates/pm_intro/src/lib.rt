@@ -1,0 +1,10 @@
+//! Actions that introduce what a conclusion or a hypothesis in hand is made of: each is a row of the directive table, with a
+//! proof.
+#![tactic(auto)]
+
+mod arrows;
+mod closing;
+mod ending;
+mod steps;
+
+pub use arrows::intro_hyp;
