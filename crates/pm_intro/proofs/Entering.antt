@@ -1,4 +1,4 @@
--- The step from what is put behind a star.
+-- The step from what is put behind a star, and ends with turns.
 use Rattle.std.proofs.Common.{◌≡◌, ℕ, zero, suc, ◌+◌, ◌*◌, ◌≤◌, List, [], ◌∷◌, length, refl, sym, ◌∙◌, ap, ap₂, subst, arith}
 use Rattle.std.specs.Prelude.{insert}
 use Rattle.pm_logic.specs.declared.formula.Formula.{Formula}
@@ -37,6 +37,8 @@ pub wanted_proves : (w : Work) (t : Tree) (n d k : ℕ) → t ≡ Hole (meaning 
 wanted_proves w t n d k is deep wide =
     let p = weaker Every (meaning w) (meaning w ∷ []) 0 (height w + 16) (length w.goal.vars) n d k (Hole (meaning w)) (omega arith) deep wide (hole_proves w) in
     subst (λ x. Proves Every (conclusion x) (meaning w ∷ []) n d k x) (sym is) p
+
+-- ---- behind a star
 
 pub more_star : (old new : Work) (a : Formula) → HasMore old a new → star (insert (work_parts old) (length (work_parts old)) a) ≡ left_of_work new
 more_star old new a more = ap star (sym more) ∙ work_star new

@@ -4,3 +4,6 @@ pub mod Handed
 pub mod Entering
 pub mod OwnBox
 pub mod LeftSides
+pub mod ByKind
+pub mod InFront
+pub mod Alternatives

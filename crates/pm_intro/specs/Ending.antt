@@ -1,4 +1,4 @@
--- What is put behind a star.
+-- Ends of actions that leave patterns to come, and what is put behind a star.
 use Rattle.std.specs.Prelude.{◌≡◌, ◌+◌, ◌*◌, [], ◌∷◌, length, insert}
 use Rattle.pm_logic.specs.declared.formula.Formula.{Formula}
 use Rattle.pm_logic.specs.declared.formula.Formula.TheViews as view

@@ -1,3 +1,6 @@
 pub mod Closing
+pub mod Hands
+pub mod Cases
 pub mod Ending
 pub mod Arrows
+pub mod Fronts

@@ -6,7 +6,7 @@ ghost use Rattle.pm_schemes.specs.Sketches.{claim, gaps, steps, height, deepest,
 ghost use Rattle.pm_schemes.specs.Tests.{passes};
 ghost use Rattle.pm_schemes.specs.Read.{sketch_of, letters_of, formulas_of, pures_of};
 ghost use Rattle.pm_classes.specs.Closing.{is_stated};
-ghost use Rattle.pm_intro.specs.Closing.{Closes};
+ghost use Rattle.pm_intro.specs.Closing.{Closes, ClosesBoth};
 
 use pm_logic::Memory;
 use pm_proof::Proof;
@@ -28,4 +28,23 @@ pub fn close(
 {
     let step = derive(alloc, vars, scheme, letters)?;
     Ok(step.fill(0, inner))
+}
+
+/// The scheme's proof, with these two at its gaps, as for `close`.
+pub fn close_both(
+    alloc: Global,
+    vars: u32,
+    scheme: &Scheme,
+    letters: Letters,
+    first: Proof,
+    second: Proof,
+) -> Result<Proof, Memory>
+    requires passes { IsTrue (passes (sketch_of scheme.now)) }
+    requires stated { IsTrue (is_stated (sketch_of scheme.now)) }
+    requires gaps { map (entail_of vars (letters_of letters)) (gaps (sketch_of scheme.now)) ≡ conclusion first ∷ conclusion second ∷ [] }
+    ensures { IfOk result (λ p. ClosesBoth first second (entail_of vars (letters_of letters.entry) (claim (sketch_of scheme.now))) (steps (sketch_of scheme.now)) (deepest (formulas_of letters.entry) (pures_of letters.entry) + height (sketch_of scheme.now)) vars p) }
+{
+    let step = derive(alloc, vars, scheme, letters)?;
+    let step = step.fill(1, second);
+    Ok(step.fill(0, first))
 }

@@ -1,16 +1,60 @@
-//! The step from a star with one part more.
+//! Ends of actions that leave patterns to come, and the step from a star with one part more.
 
-ghost use Rattle.std.specs.Prelude.{◌≡◌, ◌<◌, ◌^◌, IfOk, length};
+ghost use Rattle.std.specs.Prelude.{◌≡◌, ◌<◌, ◌^◌, [], ◌∷◌, IfOk, length};
 ghost use Rattle.pm_proof.specs.Trees.{conclusion};
 ghost use Rattle.pm_star.specs.Stars.{work_parts};
+ghost use Rattle.pm_table.specs.declared.place.Place.TheVariants.{Current as current};
+ghost use Rattle.pm_action.specs.Acting.{Ends};
+ghost use Rattle.pm_intro.specs.Cases.{cases};
 ghost use Rattle.pm_intro.specs.Ending.{HasMore, Reaches};
 
-use pm_action::wanted;
-use pm_goal::Work;
-use pm_logic::{Formula, Memory};
-use pm_proof::Proof;
+use pm_action::{finish, wanted};
+use pm_goal::{StepFault, Work};
+use pm_logic::{Formula, List, Memory};
+use pm_proof::{Parts, Proof};
 use pm_star::{compose, sink_held};
+use pm_table::Place;
 use std::alloc::Global;
+
+/// The work, with whether each of the next two patterns acts on it.
+pub fn open_place(alloc: Global, first: bool, second: bool, work: Work) -> Result<Place, Memory>
+    ensures { IfOk result (λ p. p ≡ current (first ∷ second ∷ []) work) }
+{
+    let mut turns = List::new(alloc);
+    turns.push(first)?;
+    turns.push(second)?;
+    Ok(Place::Current(turns, work))
+}
+
+/// The end with these two places.
+fn finish_both(
+    alloc: Global,
+    first: Place,
+    second: Place,
+    proof: Proof,
+) -> Result<Parts<Place>, StepFault>
+    ensures { Ends (first ∷ second ∷ []) proof result }
+{
+    let mut places = List::new(alloc);
+    places.push(first)?;
+    places.push(second)?;
+    finish(alloc, places, proof)
+}
+
+/// The end with these two works, the first pattern for the first and the second for the second.
+#[tactic(auto, using(crate::proofs::Answered::wants_memory))]
+pub fn finish_cases(
+    alloc: Global,
+    left: Work,
+    right: Work,
+    proof: Proof,
+) -> Result<Parts<Place>, StepFault>
+    ensures { Ends (cases left right) proof result }
+{
+    let left = open_place(alloc, true, false, left)?;
+    let right = open_place(alloc, false, true, right)?;
+    finish_both(alloc, left, right, proof)
+}
 
 /// From what the new work means, which is the hole: its conclusion, by the part beside the old work's star.
 pub fn reach(alloc: Global, old: &Work, part: &Formula, new: &Work) -> Result<Proof, Memory>

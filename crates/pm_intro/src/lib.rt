@@ -3,8 +3,13 @@
 #![tactic(auto)]
 
 mod arrows;
+mod cases;
 mod closing;
 mod ending;
+mod entries;
+mod fronts;
+mod hands;
 mod steps;
 
 pub use arrows::intro_hyp;
+pub use cases::either;

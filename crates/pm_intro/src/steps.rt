@@ -1,16 +1,16 @@
-//! Derived rules by which a left side comes into hand.
+//! Derived rules of introductions.
 
 ghost use Rattle.std.specs.Prelude.{◌≡◌, ◌+◌, [], ◌∷◌, IfOk};
 ghost use Rattle.pm_logic.specs.declared.formula.Formula.TheViews as view;
 ghost use Rattle.pm_proof.specs.Trees.{entail, conclusion};
 ghost use Rattle.pm_proof.specs.Known.{Proves, Every};
 ghost use Rattle.pm_schemes.specs.Sketches.{deepest};
-ghost use Rattle.pm_intro.specs.Closing.{Closes};
+ghost use Rattle.pm_intro.specs.Closing.{Closes, ClosesBoth};
 
-use crate::closing::close;
+use crate::closing::{close, close_both};
 use pm_logic::{Formula, Memory};
 use pm_proof::Proof;
-use pm_schemes::{Letters, Pattern, Scheme, and, derive, gap, imp, pers, sep, step, wand};
+use pm_schemes::{Letters, Pattern, Scheme, and, derive, gap, imp, or, pers, sep, step, wand};
 use std::alloc::Global;
 
 const A: Pattern = Pattern::Letter(0);
@@ -18,6 +18,8 @@ const A: Pattern = Pattern::Letter(0);
 const B: Pattern = Pattern::Letter(1);
 
 const X: Pattern = Pattern::Letter(2);
+
+const Y: Pattern = Pattern::Letter(3);
 
 /// From A ⊢ □ A: B ∧ A ⊢ A ∗ B.
 static RIGHT_BOXED: Scheme = step!(
@@ -169,5 +171,91 @@ pub fn to_imp(
         pures: &[],
     };
     let proof = close(alloc, vars, &IMP, letters, by)?;
+    Ok(proof)
+}
+
+/// From A ⊢ B: A ∗ X ⊢ B ∗ X.
+static BESIDE: Scheme = step!(SepMono, sep!(A, X) => sep!(B, X); gap!(A => B); step!(Refl, X => X));
+
+/// From `a ⊢ b`: `a ∗ x ⊢ b ∗ x`.
+#[tactic(auto, unfolding(pm_schemes::specs::Tests::passes, pm_schemes::specs::Tests::fits_row))]
+pub fn beside(
+    alloc: Global,
+    vars: u32,
+    a: &Formula,
+    b: &Formula,
+    x: &Formula,
+    by: Proof,
+) -> Result<Proof, Memory>
+    requires { conclusion by ≡ entail vars a.now b.now }
+    ensures { IfOk result (λ p. Closes by (entail vars (view.Sep a.now x.now) (view.Sep b.now x.now)) 2 (deepest (a.now ∷ b.now ∷ x.now ∷ []) [] + 1) vars p) }
+{
+    let letters = Letters {
+        formulas: &[a, b, x],
+        pures: &[],
+    };
+    let proof = close(alloc, vars, &BESIDE, letters, by)?;
+    Ok(proof)
+}
+
+/// From A ∗ X ⊢ Y and B ∗ X ⊢ Y: (A ∨ B) ∗ X ⊢ Y.
+static CASES: Scheme = step!(
+    WandE, sep!(or!(A, B), X) => Y;
+    step!(
+        OrE, or!(A, B) => wand!(X, Y);
+        step!(WandI, A => wand!(X, Y); gap!(sep!(A, X) => Y));
+        step!(WandI, B => wand!(X, Y); gap!(sep!(B, X) => Y))
+    )
+);
+
+/// From `a ∗ x ⊢ y` and `b ∗ x ⊢ y`: `(a ∨ b) ∗ x ⊢ y`.
+#[tactic(auto, unfolding(pm_schemes::specs::Tests::passes, pm_schemes::specs::Tests::fits_row))]
+pub fn by_cases(
+    alloc: Global,
+    vars: u32,
+    a: &Formula,
+    b: &Formula,
+    x: &Formula,
+    y: &Formula,
+    first: Proof,
+    second: Proof,
+) -> Result<Proof, Memory>
+    requires first { conclusion first ≡ entail vars (view.Sep a.now x.now) y.now }
+    requires second { conclusion second ≡ entail vars (view.Sep b.now x.now) y.now }
+    ensures { IfOk result (λ p. ClosesBoth first second (entail vars (view.Sep (view.Or a.now b.now) x.now) y.now) 4 (deepest (a.now ∷ b.now ∷ x.now ∷ y.now ∷ []) [] + 2) vars p) }
+{
+    let letters = Letters {
+        formulas: &[a, b, x, y],
+        pures: &[],
+    };
+    let proof = close_both(alloc, vars, &CASES, letters, first, second)?;
+    Ok(proof)
+}
+
+/// From A ⊢ B ∨ X: □ A ⊢ □ B ∨ □ X.
+static BOXED_EITHER: Scheme = step!(
+    Trans, pers!(A) => or!(pers!(B), pers!(X));
+    step!(PersMono, pers!(A) => pers!(or!(B, X)); gap!(A => or!(B, X)));
+    step!(PersOr, pers!(or!(B, X)) => or!(pers!(B), pers!(X)))
+);
+
+/// From `a ⊢ b ∨ x`: `□ a ⊢ □ b ∨ □ x`.
+#[tactic(auto, unfolding(pm_schemes::specs::Tests::passes, pm_schemes::specs::Tests::fits_row))]
+pub fn boxed_either(
+    alloc: Global,
+    vars: u32,
+    a: &Formula,
+    b: &Formula,
+    x: &Formula,
+    by: Proof,
+) -> Result<Proof, Memory>
+    requires { conclusion by ≡ entail vars a.now (view.Or b.now x.now) }
+    ensures { IfOk result (λ p. Closes by (entail vars (view.Pers a.now) (view.Or (view.Pers b.now) (view.Pers x.now))) 3 (deepest (a.now ∷ b.now ∷ x.now ∷ []) [] + 2) vars p) }
+{
+    let letters = Letters {
+        formulas: &[a, b, x],
+        pures: &[],
+    };
+    let proof = close(alloc, vars, &BOXED_EITHER, letters, by)?;
     Ok(proof)
 }
