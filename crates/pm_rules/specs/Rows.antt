@@ -9,7 +9,7 @@
 --              proofs/Named, in pm_check's fault.rt and Lines, and in pm_top's Offences. Where it takes more than premises:
 --              Spelling, Ranges and Reading, src/signs.rt, lines.rt and arguments.rt, proofs/RuleLaws.
 --   pm_sound   Groups: that it is sound. proofs/Groups: that its row is true, or proofs/ByEquations. proofs/Sound: its case.
---   Above      proofs/Arguments of pm_derive and proofs/Offences of pm_top: its case. rules.rt of pm_tests: a line by it, and
+--   Above      proofs/Arguments of pm_write and proofs/Offences of pm_top: its case. rules.rt of pm_tests: a line by it, and
 --              one that doesn't follow. docs/RULES.md: its row. examples/rules.derivation: a line.
 -- Then `rt check`, `rt fmt` and `rt tidy` in each of these crates in this order, and `rt ci` at the top.
 use Rattle.std.specs.Prelude.{◌≡◌, ℕ, List, [], ◌∷◌, length}

@@ -1,11 +1,12 @@
 -- What an action gives: the works in the place of the one that it was run on, or the first row that refuses it.
-use Rattle.std.specs.Prelude.{ℕ, Bool, List, [], ◌∷◌, ◌++◌, Option, Some, None, if◌then◌else◌}
+use Rattle.std.specs.Prelude.{ℕ, Bool, List, [], ◌∷◌, ◌++◌, Option, Some, None, if◌then◌else◌, Result, Ok, Err}
+use Rattle.pm_goal.specs.declared.goal.Goal.{Goal}
 use Rattle.pm_goal.specs.declared.work.Work.{Work}
 use Rattle.pm_goal.specs.declared.refusal.Row.{Row}
 use Rattle.pm_goal.specs.declared.refusal.Refusal.{Refusal}
 use Rattle.pm_goal.specs.Refusals.{refusal}
 use Rattle.pm_table.specs.declared.place.Place.{Place}
-use Rattle.pm_table.specs.declared.place.Place.TheVariants.{Current as current}
+use Rattle.pm_table.specs.declared.place.Place.TheVariants.{Finished as finished, Current as current}
 
 pub data Outcome : Type 0 where
   gives : (places : List Place) → Outcome
@@ -56,3 +57,9 @@ abbrev pub joined : Outcome → Outcome → Outcome
 joined (gives ps) (gives qs) = gives (ps ++ qs)
 joined (gives ps) (refused r) = refused r
 joined (refused r) o = refused r
+
+-- ---- what a place is made of
+
+abbrev pub parts_of_place : Place → Result (List Bool × Work) Goal
+parts_of_place (finished goal) = Err goal
+parts_of_place (current turns work) = Ok (turns, work)

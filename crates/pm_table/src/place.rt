@@ -1,5 +1,8 @@
 //! Where works stand between the actions of a directive.
 
+ghost use Rattle.std.specs.Prelude.{◌≡◌};
+ghost use Rattle.pm_table.specs.Outcomes.{parts_of_place};
+
 use pm_goal::{Goal, Work};
 use pm_logic::List;
 
@@ -9,6 +12,18 @@ pub enum Place {
     Finished(Goal),
     /// A goal with hypotheses in hand, and for each of the patterns to come, the next one first, whether it is for this goal.
     Current(List<bool>, Work),
+}
+
+impl Place {
+    /// The turns that are still to come and the work, or the goal that no later action is for.
+    pub fn into_parts(self) -> Result<(List<bool>, Work), Goal>
+        ensures { result ≡ parts_of_place self }
+    {
+        match self {
+            Place::Finished(goal) => Err(goal),
+            Place::Current(turns, work) => Ok((turns, work)),
+        }
+    }
 }
 
 // Written out for the same reason as those of goals.
