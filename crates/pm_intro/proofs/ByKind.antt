@@ -52,10 +52,6 @@ module _ (E : Formula → Formula → Entail) (k : ℕ) where
 
 -- ---- under a box
 
--- a proof of a formula is within the bounds of one of its box
-wider : (k : ℕ) (f : Formula) (e : Entail) (t : Tree) → HasProof k f e t → HasProof k (view.Pers f) e t
-wider k f e t p = weaker Every e [] (200 * nodes_of f) (depth_of f + 8) (k + depth_of f) (200 * nodes_of (view.Pers f)) (depth_of (view.Pers f) + 8) (k + depth_of (view.Pers f)) t (omega (arith, nodes_pers f)) (omega (arith, depth_pers f)) (omega (arith, depth_pers f)) p
-
 pub root_deep : (t : Tree) → side_depth (conclusion t) ≤ depth t
 root_deep (Hole e) = omega arith
 root_deep (Axiom r e) = omega arith

@@ -4,6 +4,9 @@ pub mod Handed
 pub mod Entering
 pub mod OwnBox
 pub mod LeftSides
+pub mod Mapped
+pub mod Shifting
+pub mod Generals
 pub mod ByKind
 pub mod InFront
 pub mod Alternatives

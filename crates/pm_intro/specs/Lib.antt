@@ -4,3 +4,4 @@ pub mod Cases
 pub mod Ending
 pub mod Arrows
 pub mod Fronts
+pub mod Variables

@@ -10,6 +10,9 @@ mod entries;
 mod fronts;
 mod hands;
 mod steps;
+mod universal;
+mod variables;
 
 pub use arrows::intro_hyp;
 pub use cases::either;
+pub use universal::{intro_all, intro_all_fresh};
