@@ -1,5 +1,5 @@
 -- A variable of the conclusion comes into the goal.
-use Rattle.std.proofs.Common.{◌≡◌, ℕ, suc, ◌+◌, ◌<◌, ◌≤◌, max, List, [], ◌∷◌, ◌++◌, length, refl, sym, ◌∙◌, ap, ap₂, subst, arith}
+use Rattle.std.proofs.Common.{◌≡◌, ◌+◌, ◌≤◌, max, [], ◌∷◌, length, refl, sym, ◌∙◌, ap, ap₂, subst, arith}
 use Rattle.pm_logic.specs.declared.formula.Formula.{Formula}
 use Rattle.pm_logic.specs.declared.formula.Formula.TheViews as view
 use Rattle.pm_logic.specs.Trees.{All}
@@ -9,7 +9,6 @@ use Rattle.pm_logic.proofs.Views.{view_all}
 use Rattle.pm_goal.specs.declared.work.Work.{Work}
 use Rattle.pm_goal.specs.declared.refusal.Row.TheVariants.{NoVariableToIntroduce, NameInUse}
 use Rattle.pm_goal.specs.Left.{left_of_work}
-use Rattle.pm_rules.specs.declared.rules.Entail.{Entail}
 use Rattle.pm_proof.specs.Trees.{Tree, entail, side_depth}
 use Rattle.pm_proof.specs.Known.{Proves, Every}
 use Rattle.pm_proof.proofs.Fills.{weaker}

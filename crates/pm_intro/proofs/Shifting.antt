@@ -1,7 +1,6 @@
 -- The star of a work with a variable more is the star with each index one higher.
-use Rattle.std.proofs.Common.{◌≡◌, ℕ, zero, suc, ◌+◌, ◌<◌, ◌≤◌, inl, inr, List, [], ◌∷◌, ◌++◌, length, map, refl, sym, ◌∙◌, ap, ap₂, subst, arith}
+use Rattle.std.proofs.Common.{◌≡◌, ℕ, ◌+◌, ◌≤◌, inl, inr, List, [], ◌∷◌, ◌++◌, length, map, refl, sym, ◌∙◌, ap, ap₂, subst, arith}
 use Rattle.std.specs.List.{AllByRecursion}
-use Rattle.std.proofs.lemmas.List.{length-map}
 use denote.Hole.Carrier as carrier
 use Rattle.pm_logic.specs.declared.formula.Pure.{Pure}
 use Rattle.pm_logic.specs.declared.formula.Pure.TheVariants as pure
@@ -11,31 +10,25 @@ use Rattle.pm_logic.specs.declared.formula.Formula.TheViews as view
 use Rattle.pm_logic.specs.declared.formula.Formula.TheBlock as block
 use Rattle.pm_logic.specs.declared.formula.TheConstants.{BOUND}
 use Rattle.pm_logic.specs.Bounds.{IsBounded}
-use Rattle.pm_logic.specs.Scope.{ScopedIn, PureScoped}
-use Rattle.pm_logic.specs.Size.{depth_of}
-use Rattle.pm_logic.specs.Substitution.{in_formula, in_pure, one_up, shift_of}
+use Rattle.pm_logic.specs.Scope.{ScopedIn}
+use Rattle.pm_logic.specs.Substitution.{in_formula, in_pure, shift_of}
 use Rattle.pm_logic.proofs.Scopes.{sep_scoped_in, modal_scoped_in, pure_scoped_in_from, true_scoped}
 use Rattle.pm_goal.specs.declared.goal.Hyp.{Hyp}
 use Rattle.pm_goal.specs.declared.goal.Fact.{Fact}
-use Rattle.pm_goal.specs.declared.goal.Goal.{Goal}
 use Rattle.pm_goal.specs.declared.work.Kind.{Kind}
 use Rattle.pm_goal.specs.declared.work.Kind.TheVariants as kind
 use Rattle.pm_goal.specs.declared.work.Held.{Held}
 use Rattle.pm_goal.specs.declared.work.Work.{Work}
-use Rattle.pm_goal.specs.Left.{star_onto, of_kind, facts, hyps_as, hyps, held_parts, left_onto, left_of_work}
-use Rattle.pm_star.specs.Stars.{work_parts}
+use Rattle.pm_goal.specs.Left.{star_onto, of_kind, facts, hyps_as, hyps, held_parts, left_of_work}
 use Rattle.pm_classes.proofs.Undone.{shift_pers}
 use Rattle.pm_table.specs.Occurrences.{shifted_pure}
-use Rattle.pm_table.specs.Limits.{formulas, work_formulas, greatest_depth, hypotheses}
+use Rattle.pm_table.specs.Limits.{formulas, work_formulas, greatest_depth}
 use Rattle.pm_table.specs.Stepping.{NamesDiffer}
-use Rattle.pm_table.specs.Works as works
 use Rattle.pm_table.specs.Works.{Named, each_fact, each_hyp, each_held}
-use Rattle.pm_action.specs.Meanings.{height}
-use Rattle.pm_action.specs.Acting.{IsHanded, IsLast}
-use Rattle.pm_action.proofs.Heights.{star_height, parts_are}
-use Rattle.pm_intro.specs.Hands.{rest}
+use Rattle.pm_action.specs.Acting.{IsHanded}
+use Rattle.pm_action.proofs.Heights.{star_height}
 use Rattle.pm_intro.specs.Variables.{IsLiftable, lifted}
-use Rattle.pm_intro.proofs.Handed.{all_parts, last_all, concl_all}
+use Rattle.pm_intro.proofs.Handed.{all_parts}
 
 -- ---- shifting goes through signs
 

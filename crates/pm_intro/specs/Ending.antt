@@ -4,7 +4,7 @@ use Rattle.pm_logic.specs.declared.formula.Formula.{Formula}
 use Rattle.pm_logic.specs.declared.formula.Formula.TheViews as view
 use Rattle.pm_goal.specs.declared.work.Work.{Work}
 use Rattle.pm_goal.specs.Left.{left_of_work}
-use Rattle.pm_proof.specs.Trees.{Tree, entail, conclusion}
+use Rattle.pm_proof.specs.Trees.{Tree, entail}
 use Rattle.pm_proof.specs.Known.{Proves, Every}
 use Rattle.pm_star.specs.Stars.{work_parts}
 use Rattle.pm_action.specs.Meanings.{meaning, height}

@@ -1,22 +1,12 @@
 -- Works with a variable more.
-use Rattle.std.specs.Prelude.{ℕ, ◌+◌, ◌*◌, max, [], ◌∷◌, ◌++◌, length}
 use Rattle.std.specs.List.{AllByRecursion}
 use Rattle.pm_logic.specs.declared.formula.Formula.{Formula}
 use Rattle.pm_logic.specs.declared.formula.Formula.TheVariants.{Pure as Assert}
-use Rattle.pm_logic.specs.declared.formula.Formula.TheViews as view
 use Rattle.pm_logic.specs.Bounds.{IsBounded}
 use Rattle.pm_logic.specs.Substitution.{shift_of}
-use Rattle.pm_goal.specs.declared.work.Kind.{Kind}
 use Rattle.pm_goal.specs.declared.work.Work.{Work}
-use Rattle.pm_goal.specs.Left.{left_of_work}
-use Rattle.pm_proof.specs.Trees.{Tree, entail}
-use Rattle.pm_proof.specs.Known.{Proves, Every}
 use Rattle.pm_table.specs.Stepping.{NamesDiffer}
-use Rattle.pm_table.specs.Limits.{all_nodes, work_formulas}
-use Rattle.pm_table.specs.Works.{Named, with_var, each_held, work_of, holding}
-use Rattle.pm_action.specs.Acting.{all_but_last}
-use Rattle.pm_action.specs.Meanings.{meaning, height, width}
-use Rattle.pm_intro.specs.Hands.{rest}
+use Rattle.pm_table.specs.Works.{Named, with_var, each_held, work_of}
 
 -- what a work is whose formulas can all be shifted
 pub record IsLiftable (w : Work) : Type 0 where
