@@ -3,6 +3,8 @@ pub mod Sizes
 pub mod Answered
 pub mod Lasts
 pub mod Names
+pub mod Lists
+pub mod Lookups
 pub mod Relasts
 pub mod Kinded
 pub mod Contradicted

@@ -4,6 +4,7 @@
 mod contradicting;
 mod dropping;
 mod kinds;
+mod looking;
 mod naming;
 mod purity;
 mod replacing;
@@ -12,5 +13,6 @@ mod steps;
 pub use contradicting::absurd_held;
 pub use dropping::drop_held;
 pub use kinds::{to_int, to_spat};
+pub use looking::{Lookup, look_up, without_named};
 pub use naming::{name_fresh, name_held};
 pub use purity::{to_pure, to_pure_fresh};
