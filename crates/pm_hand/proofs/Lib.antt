@@ -9,3 +9,5 @@ pub mod Relasts
 pub mod Kinded
 pub mod Contradicted
 pub mod Known
+pub mod Handing
+pub mod Takes

@@ -3,12 +3,14 @@
 
 mod contradicting;
 mod dropping;
+mod holding;
 mod kinds;
 mod looking;
 mod naming;
 mod purity;
 mod replacing;
 mod steps;
+mod taking;
 
 pub use contradicting::absurd_held;
 pub use dropping::drop_held;
@@ -16,3 +18,4 @@ pub use kinds::{to_int, to_spat};
 pub use looking::{Lookup, look_up, without_named};
 pub use naming::{name_fresh, name_held};
 pub use purity::{to_pure, to_pure_fresh};
+pub use taking::take;
