@@ -17,16 +17,17 @@ use Rattle.pm_goal.specs.declared.work.Kind.TheVariants as kind
 use Rattle.pm_goal.specs.declared.work.Held.{Held}
 use Rattle.pm_goal.specs.declared.work.Work.{Work}
 use Rattle.pm_goal.specs.declared.refusal.StepFault.{StepFault}
-use Rattle.pm_goal.specs.Left.{of_kind, left_of_work}
+use Rattle.pm_goal.specs.Left.{star_onto, of_kind, hyps, left_of_work}
 use Rattle.pm_proof.specs.Trees.{Tree, entail, conclusion}
 use Rattle.pm_proof.specs.Known.{Proves, Extends, Every, ScopedWhere}
 use Rattle.pm_proof.specs.declared.proof.Parts.{Parts}
 use Rattle.pm_proof.proofs.Fills.{weaker, extends_weaker, extends_proves}
 use Rattle.pm_schemes.specs.Sketches.{deepest}
-use Rattle.pm_star.specs.Stars.{star, parts, work_parts, part_at, without, room as star_room, Moves, MovesBy}
+use Rattle.pm_star.specs.Stars.{star, parts, shared, work_parts, part_at, without, duplicated, room as star_room, Moves, MovesBy}
 use Rattle.pm_star.specs.Levels.{left_side, right_side}
 use Rattle.pm_star.specs.Chains.{ChainProves, across, moved}
-use Rattle.pm_star.proofs.Scoping.{star_scoped, scoped_star, all_insert, scoped_box}
+use Rattle.pm_star.proofs.Contexts.{work_star}
+use Rattle.pm_star.proofs.Scoping.{star_scoped, scoped_star, all_insert, scoped_box, duplicated_scoped, depth_sep, part_deep}
 use Rattle.pm_star.proofs.Places.{gains_held, loses_in_goal, in_goal_at}
 use Rattle.pm_table.specs.declared.place.Place.{Place}
 use Rattle.pm_table.specs.declared.place.Place.TheVariants.{Current as current}
@@ -219,3 +220,56 @@ fact_taken w name p place a b t at m q chain =
     brings_chain w mid new a b t (100 * length (work_parts w) + 100) (100 * length (work_parts (less w name)) + 201) (200 * length (work_parts w) + 302) refl (same_height (less w name) kind.Spat kind.Int (Assert p))
     (moves_bring w mid a m) q (λ preds s. kinds_scoped preds (length w.goal.vars) (less w name) (Assert p) s) chain
     (omega (arith, fewer, length_without (work_parts w) place (inside w place at.within)))
+
+-- ---- a part once more
+
+star_double : (fs : List Formula) (i : ℕ) → star (duplicated fs i) ≡ view.Sep (part_at fs i) (star fs)
+unfolding star_onto
+star_double fs i = refl
+
+-- the two proofs meet
+pub double_meets : (w : Work) (place : ℕ) (part : Formula) (a b : Tree) (r : Formula) → place < length (parts w.goal) → part_at (parts w.goal) place ≡ part
+    → Moves (length w.goal.vars) (length (work_parts w)) (left_of_work w) (star (duplicated (work_parts w) place)) a
+    → Moves (length w.goal.vars) (length (work_parts w)) (view.Sep part (left_of_work w)) r b → left_side b ≡ right_side a
+double_meets w place part a b r lt is m n =
+    ap (λ (e : Entail). e.left) n.concludes
+    ∙ sym (ap (λ (e : Entail). e.right) m.concludes ∙ star_double (work_parts w) place ∙ ap₂ (λ x y. view.Sep x y) (in_goal_at w place lt ∙ is) (work_star w))
+
+pub before_within : (w : Work) (place : ℕ) → place < length (shared w.goal) → place < length (parts w.goal)
+before_within w place lt = omega (arith, lt, length-append (shared w.goal) (hyps w.goal.spats))
+
+pub doubles : (w : Work) (place to : ℕ) (k : Kind) (f once : Formula) (a b t : Tree) → once ≡ of_kind k f → place < length (parts w.goal) → part_at (parts w.goal) place ≡ of_kind k f → to ≡ hypotheses w
+    → Moves (length w.goal.vars) (length (work_parts w)) (left_of_work w) (star (duplicated (work_parts w) place)) a
+    → Moves (length w.goal.vars) (length (work_parts w)) (view.Sep once (left_of_work w)) (star (insert (work_parts w) to once)) b
+    → ChainProves a b t → Brings w (hold k f w) (200 * length (work_parts w) + 201) t
+doubles w place to kd f once a b t once_is lt is to_is m1 m3 chain =
+    let k = length w.goal.vars in
+    let N = length (work_parts w) in
+    let m2 : Moves k N (view.Sep (of_kind kd f) (left_of_work w)) (star (insert (work_parts w) to (of_kind kd f))) b = subst (λ g. Moves k N (view.Sep g (left_of_work w)) (star (insert (work_parts w) to g)) b) once_is m3 in
+    let x = left_of_work w in
+    let part = of_kind kd f in
+    let y = view.Sep part x in
+    let new = hold kd f w in
+    let z = left_of_work new in
+    let D = room w (current [] new ∷ []) in
+    let c = 100 * (N + 1) in
+    let double : star (duplicated (work_parts w) place) ≡ y = star_double (work_parts w) place ∙ ap₂ (λ u v. view.Sep u v) (in_goal_at w place lt ∙ is) (work_star w) in
+    let end : star (insert (work_parts w) to part) ≡ z = ap (λ n. star (insert (work_parts w) n part)) (to_is ∙ sym (parts_are w)) ∙ hold_star w kd f in
+    let n1 : Moves k N x y a = subst (λ r. Moves k N x r a) double m1 in
+    let n2 : Moves k N y z b = subst (λ r. Moves k N y r b) end m2 in
+    let deep : suc (depth_of part) ≤ depth_of x = subst (λ g. suc (depth_of part) ≤ depth_of g) (work_star w) (subst (λ g. suc (depth_of g) ≤ depth_of (star (work_parts w))) (in_goal_at w place lt ∙ is) (part_deep (work_parts w) place (inside w place lt))) in
+    let p1 : Proves Every (conclusion a) [] c D (width w) a = subst (λ e. Proves Every e [] c D (width w) a) (sym n1.concludes) (weaker Every (entail k x y) [] c (star_room x y) k c D (width w) a (omega arith) (omega (arith, deep, depth_sep part x, star_height w)) (omega arith) n1) in
+    let p2 : Proves Every (conclusion b) [] c D (width w) b = subst (λ e. Proves Every e [] c D (width w) b) (sym n2.concludes) (weaker Every (entail k y z) [] c (star_room y z) k c D (width w) b (omega arith) (omega (arith, deep, depth_sep part x, star_height w, star_height new)) (omega arith) n2) in
+    let over : across a b ≡ entail k x z = ap₂ (λ (e g : Entail). entail e.vars e.left g.right) n1.concludes n2.concludes in
+    let scope : ScopedWhere (across a b) [] (conclusion a) = subst (λ e. ScopedWhere e [] (conclusion a)) (sym over) (subst (λ e. ScopedWhere (entail k x z) [] e) (sym n1.concludes)
+    (λ preds e hs. (e.0, subst (Scoped preds k) double (duplicated_scoped preds k (work_parts w) place (subst (Scoped preds k) (sym (work_star w)) e.0))))) in
+    let all : Proves Every (across a b) [] (c + c + 1) D (width w) t = chain Every [] [] c c D (width w) p1 p2 scope in
+    weaker Every (entail k x z) [] (c + c + 1) D (width w) (200 * N + 201) D (width w) t (omega arith) (omega arith) (omega arith) (subst (λ e. Proves Every e [] (c + c + 1) D (width w) t) over all)
+
+pub fact_lent : (w : Work) (p : Pure) (a b t : Tree)
+    → Brings w (hold kind.Spat (Assert p) w) (200 * length (work_parts w) + 201) a
+    → Proves Every (entail (length w.goal.vars) (left_of_work (hold kind.Spat (Assert p) w)) (left_of_work (hold kind.Int (Assert p) w))) [] (100 * length (work_parts w) + 201) (height (hold kind.Int (Assert p) w) + 16) (length w.goal.vars) b
+    → ChainProves a b t → Brings w (hold kind.Int (Assert p) w) (300 * length (work_parts w) + 403) t
+fact_lent w p a b t m q chain =
+    brings_chain w (hold kind.Spat (Assert p) w) (hold kind.Int (Assert p) w) a b t (200 * length (work_parts w) + 201) (100 * length (work_parts w) + 201) (300 * length (work_parts w) + 403) refl (same_height w kind.Spat kind.Int (Assert p))
+    m q (λ preds s. kinds_scoped preds (length w.goal.vars) w (Assert p) s) chain (omega arith)

@@ -1,5 +1,5 @@
 -- What a name names in a goal, from its place in a context.
-use Rattle.std.proofs.Common.{◌≡◌, ℕ, ◌+◌, ◌<◌, ◌≤◌, Bool, true, false, cond, List, [], ◌∷◌, length, refl, sym, ◌∙◌, ap, arith, Option, Some, None, position, bytes_eq, slice_get}
+use Rattle.std.proofs.Common.{◌≡◌, ℕ, suc, ◌+◌, ◌<◌, ◌≤◌, Bool, true, false, cond, List, [], ◌∷◌, length, refl, sym, ◌∙◌, ap, arith, Option, Some, None, position, bytes_eq, slice_get}
 use Rattle.std.specs.Prelude.{option_map}
 use Rattle.pm_logic.specs.declared.formula.Pure.{Pure}
 use Rattle.pm_logic.specs.declared.formula.Formula.{Formula}
@@ -11,7 +11,7 @@ use Rattle.pm_goal.specs.declared.goal.Goal.{Goal}
 use Rattle.pm_goal.specs.declared.work.Kind.TheVariants as kind
 use Rattle.pm_star.specs.Stars.{parts, shared, part_at, without}
 use Rattle.pm_star.proofs.Places.{goal_loses_fact, goal_loses_int, goal_loses_spat, fact_at, int_at, spat_at}
-use Rattle.pm_table.specs.Works.{Named, hyp_named, fact_named, without_named}
+use Rattle.pm_table.specs.Works.{Named, hyp_named, fact_named, hyps_but, facts_but, without_named, without_spat}
 use Rattle.pm_table.specs.Stepping.{times, NamesDiffer}
 use Rattle.pm_table.proofs.Counting.{hyp_names, fact_names, times_in_goal}
 use Rattle.pm_action.specs.Naming.{HypsDiffer, FactsDiffer}
@@ -144,3 +144,31 @@ ints_differ goal apart name = let all = times_in_goal name goal in let most = ap
 
 pub pures_differ : (goal : Goal) → NamesDiffer goal → FactsDiffer goal.pures
 pures_differ goal apart name = let all = times_in_goal name goal in let most = apart name in omega (arith, all, most)
+
+-- ---- contexts that keep all
+
+named_counted : (name : Named) (hs : List Hyp) → hyp_named name hs ≡ None → times name (hyp_names hs) ≡ 0
+named_counted name [] e = refl
+named_counted name (h ∷ hs) e = by (bytes_eq name h.name) e (named_counted name hs)
+  where
+    by : (b : Bool) → cond b (Some h.formula) (hyp_named name hs) ≡ None → (hyp_named name hs ≡ None → times name (hyp_names hs) ≡ 0) → cond b (suc (times name (hyp_names hs))) (times name (hyp_names hs)) ≡ 0
+    by true bad rest = absurd cc
+    by false none rest = rest none
+
+-- without a spatial one of the name, where there is none
+pub no_spat : (goal : Goal) (name : Named) → hyp_named name goal.spats ≡ None → without_spat name goal ≡ goal
+no_spat goal name e = ap (λ hs. record goal { spats = hs }) (zero_others of_hyp name goal.spats (named_counted name goal.spats e))
+
+fact_counted : (name : Named) (fs : List Fact) → fact_named name fs ≡ None → times name (fact_names fs) ≡ 0
+fact_counted name [] e = refl
+fact_counted name (f ∷ fs) e = by (bytes_eq name f.name) e (fact_counted name fs)
+  where
+    by : (b : Bool) → cond b (Some f.pure) (fact_named name fs) ≡ None → (fact_named name fs ≡ None → times name (fact_names fs) ≡ 0) → cond b (suc (times name (fact_names fs))) (times name (fact_names fs)) ≡ 0
+    by true bad rest = absurd cc
+    by false none rest = rest none
+
+-- without the spatial one
+pub only_spat : (goal : Goal) (name : Named) → hyp_named name goal.ints ≡ None → fact_named name goal.pures ≡ None → without_spat name goal ≡ without_named name goal
+only_spat goal name i p =
+    sym (ap (λ hs. record goal { ints = hs; spats = hyps_but name goal.spats; pures = facts_but name goal.pures }) (zero_others of_hyp name goal.ints (named_counted name goal.ints i))
+    ∙ ap (λ fs. record goal { spats = hyps_but name goal.spats; pures = fs }) (zero_others of_fact name goal.pures (fact_counted name goal.pures p)))

@@ -18,4 +18,4 @@ pub use kinds::{to_int, to_spat};
 pub use looking::{Lookup, look_up, without_named};
 pub use naming::{name_fresh, name_held};
 pub use purity::{to_pure, to_pure_fresh};
-pub use taking::take;
+pub use taking::{lend, take};
