@@ -7,3 +7,8 @@ pub mod Named
 pub mod Exacts
 pub mod Taken
 pub mod Answering
+pub mod FalseTests
+pub mod FalseParts
+pub mod Sides
+pub mod Equal
+pub mod Opposed

@@ -3,8 +3,12 @@
 
 mod assuming;
 mod exactly;
+mod falsehoods;
 mod finding;
+mod finishing;
 mod naming;
+mod opposites;
+mod reflexive;
 mod searching;
 mod stepping;
 mod taking;
@@ -12,3 +16,4 @@ mod way;
 
 pub use assuming::assumption;
 pub use exactly::exact;
+pub use finishing::done;
