@@ -1,4 +1,4 @@
-//! `done`.
+//! `done`, and `//` in patterns.
 
 ghost use Rattle.std.specs.Prelude.{◌≡◌, ◌≤◌, ◌||◌, [], IfOk};
 ghost use Rattle.pm_logic.specs.declared.limits.TheConstants.{MAX_LINE_LEVELS};
@@ -13,8 +13,8 @@ use crate::falsehoods::by_part;
 use crate::opposites::by_opposites;
 use crate::reflexive::{by_reflexivity, by_truth};
 use crate::taking::by_found;
-use pm_action::{finish_closed, refuse_plain};
-use pm_goal::{Row, StepFault, Work};
+use pm_action::{finish_closed, refuse_plain, unmoved};
+use pm_goal::{Row, StepFault, Work, copy_work};
 use pm_logic::Memory;
 use pm_proof::{Parts, Proof};
 use pm_table::Place;
@@ -71,5 +71,21 @@ pub fn done(alloc: Global, work: &Work) -> Result<Parts<Place>, StepFault>
     match at_once(alloc, work)? {
         Some(proof) => finish_closed(alloc, proof),
         None => Err(refuse_plain(Row::NotDone)),
+    }
+}
+
+/// `//` in a pattern: as `done`, but where that is refused the work stays as it is.
+pub fn try_done(alloc: Global, work: &Work) -> Result<Parts<Place>, StepFault>
+    requires handed { IsHanded work.now }
+    requires nothing { work.now.held ≡ [] }
+    requires shallow { depth_of work.now.goal.concl ≤ MAX_LINE_LEVELS }
+    ensures { Answers (all_nodes (work_formulas work.now)) work.now (limited (on_goal table.try_done work.now)) result }
+{
+    match at_once(alloc, work)? {
+        Some(proof) => finish_closed(alloc, proof),
+        None => {
+            let same = copy_work(alloc, work)?;
+            unmoved(alloc, work, same)
+        }
     }
 }

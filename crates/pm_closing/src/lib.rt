@@ -16,4 +16,4 @@ mod way;
 
 pub use assuming::assumption;
 pub use exactly::exact;
-pub use finishing::done;
+pub use finishing::{done, try_done};
