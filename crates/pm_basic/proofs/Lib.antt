@@ -3,3 +3,4 @@ pub mod Choices
 pub mod Endings
 pub mod Naming
 pub mod Cleared
+pub mod Splits

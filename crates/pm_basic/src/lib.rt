@@ -6,7 +6,9 @@ mod clearing;
 mod concluding;
 mod finding;
 mod rules;
+mod splitting;
 mod steps;
 
 pub use choosing::{exfalso, exists, side};
 pub use clearing::clear;
+pub use splitting::split;
