@@ -80,9 +80,9 @@ module _ (k : ℕ) (a b : Formula) where
     first = h.first;
     second = h.second;
     proof =
-      let says : Entail = entail k (view.And a b) (view.Sep a b) in
-      weaker Every says [] (200 * nodes_of (view.And a b)) (depth_of (view.And a b) + 8) (k + depth_of (view.And a b)) (200 * nodes_of (view.Sep a b)) (depth_of (view.Sep a b) + 8) (k + depth_of (view.Sep a b)) e.proof
-      (omega (arith, and_nodes)) (omega (arith, and_depth)) (omega (arith, and_depth)) h.proof;
+        let says : Entail = entail k (view.And a b) (view.Sep a b) in
+        weaker Every says [] (200 * nodes_of (view.And a b)) (depth_of (view.And a b) + 8) (k + depth_of (view.And a b)) (200 * nodes_of (view.Sep a b)) (depth_of (view.Sep a b) + 8) (k + depth_of (view.Sep a b)) e.proof
+        (omega (arith, and_nodes)) (omega (arith, and_depth)) (omega (arith, and_depth)) h.proof;
   }
 
   -- the entry of the conjunction as a star is that of the star
@@ -166,7 +166,7 @@ module _ (g : Goal) (a b : Formula) where
       let known1 : Proves Every (conclusion closing) [] n d q closing = subst (λ (e : Entail). Proves Every e [] n d q closing) (sym known.concludes) known in
       let over : across step closing ≡ meaning w = ap (λ (e : Entail). entail e.vars e.left (conclusion closing).right) p1.concludes ∙ ap (λ (e : Entail). entail k l1 e.right) known.concludes in
       let scope : ScopedWhere (across step closing) (meanings halves) (conclusion step) = λ preds e hs.
-          subst (EntailScoped preds) (sym p1.concludes) ((subst (EntailScoped preds) over e).0, two_scoped preds k binary.And a b hs.0.1 hs.1.0.1) in
+      subst (EntailScoped preds) (sym p1.concludes) ((subst (EntailScoped preds) over e).0, two_scoped preds k binary.And a b hs.0.1 hs.1.0.1) in
       let all : Proves Every (across step closing) (meanings halves) (1 + n + 1) d q t = chain Every (meanings halves) [] 1 n d q p3 known1 scope in
       weaker Every (meaning w) (meanings halves) (1 + n + 1) d q (n + 2) d q t (omega arith) (omega arith) (omega arith) (subst (λ (e : Entail). Proves Every e (meanings halves) (1 + n + 1) d q t) over all)
 
