@@ -303,3 +303,7 @@ no_part name goal e = by (hyp_place name goal.spats) (hyp_place name goal.ints) 
           has = rw (no_int, no_spat, no_fact) refl;
           reverted = rw (no_spat, no_int, no_fact) refl;
         }
+
+pub named_is : (goal : Goal) (name : Named) (o : Option ℕ) → NamesDiffer goal → o ≡ place_named name goal → is_some o ≡ has_hyp_or_fact goal name
+named_is goal name None apart e = sym (no_part name goal (sym e)).has
+named_is goal name (Some n) apart e = sym (part_named name goal apart n (sym e)).has

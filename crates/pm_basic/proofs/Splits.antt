@@ -1,16 +1,13 @@
 -- Conclusions of two parts, of which each is shown by all that the goal has.
-use Rattle.std.proofs.Common.{◌≡◌, inl, inr, ℕ, suc, ◌+◌, ◌*◌, ◌<◌, ◌≤◌, max, Bool, true, false, cond, ◌||◌, List, [], ◌∷◌, ◌++◌, length, map, refl, sym, ◌∙◌, ap, subst, arith, Option, Some, None}
-use Rattle.std.specs.Prelude.{Result, Ok, Err}
-use Rattle.std.specs.List.{AllByRecursion}
+use Rattle.std.proofs.Common.{◌≡◌, ℕ, suc, ◌+◌, ◌*◌, ◌≤◌, Bool, true, false, cond, ◌||◌, List, [], ◌∷◌, ◌++◌, length, map, refl, sym, ◌∙◌, ap, subst, arith, Option, Some, None}
+use Rattle.std.specs.Prelude.{Result, Err}
 use Rattle.pm_logic.specs.declared.formula.Pure as P
 use Rattle.pm_logic.specs.declared.formula.Pure.TheVariants.{True, False, Eq, Le, Lt}
 use Rattle.pm_logic.specs.declared.formula.Pure.TheViews as pure_view
 use Rattle.pm_logic.specs.declared.formula.Formula.{Formula}
 use Rattle.pm_logic.specs.declared.formula.Formula.TheVariants.{Pure as Assert, Pts, Call}
 use Rattle.pm_logic.specs.declared.formula.Formula.TheViews as view
-use Rattle.pm_logic.specs.declared.formula.TheConstants.{BOUND}
 use Rattle.pm_logic.specs.Trees.{both, either, nope, Sep, Wand, And, Or, Imp, All, Ex, Later, Pers, Upd}
-use Rattle.pm_logic.specs.Scope.{ScopedIn}
 use Rattle.pm_logic.specs.Size.{depth_of, nodes_of}
 use Rattle.pm_logic.proofs.Scopes.{scoped_in_sep, and_scoped_in}
 use Rattle.pm_logic.proofs.Sizes.{depth_pure, depth_both}
@@ -30,7 +27,6 @@ use Rattle.pm_proof.specs.declared.proof.Parts.{Parts}
 use Rattle.pm_proof.proofs.Fills.{weaker}
 use Rattle.pm_schemes.specs.Sketches.{deepest}
 use Rattle.pm_star.specs.Chains.{ChainProves, across}
-use Rattle.pm_star.proofs.Scoping.{sep_scoped}
 use Rattle.pm_schemes.proofs.Scopes.{two_scoped}
 use Rattle.pm_rules.specs.declared.pattern.Binary.TheVariants as binary
 use Rattle.pm_classes.specs.declared.entry.Pair.{Pair}
@@ -41,10 +37,10 @@ use Rattle.pm_classes.specs.Persistence.{is_persistent}
 use Rattle.pm_classes.proofs.Sizes.{has_nodes, depth_sep, depth_and, nodes_sep, nodes_and}
 use Rattle.pm_table.specs.declared.place.Place.{Place}
 use Rattle.pm_table.specs.declared.place.Place.TheVariants.{Current as current}
-use Rattle.pm_table.specs.Outcomes.{Outcome, gives, require_entry}
-use Rattle.pm_table.specs.Limits.{limited, resting, work_formulas, formulas, all_nodes, greatest_depth}
+use Rattle.pm_table.specs.Outcomes.{Outcome, require_entry}
+use Rattle.pm_table.specs.Limits.{limited, resting, work_formulas, formulas, all_nodes}
 use Rattle.pm_table.specs.Basic.{for, on_goal, split, split_parts, gives_goals}
-use Rattle.pm_action.specs.Meanings.{meaning, meanings, height, room, width}
+use Rattle.pm_action.specs.Meanings.{meaning, meanings, room, width}
 use Rattle.pm_action.specs.Acting.{IsActed, Answers, Ends, plainly}
 use Rattle.pm_action.proofs.Heights.{concl_depth, concl_height, star_height}
 use Rattle.pm_action.proofs.Moves.{few}

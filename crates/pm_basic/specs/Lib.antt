@@ -1,3 +1,4 @@
 pub mod Enough
 pub mod Named
 pub mod Halves
+pub mod Renamings

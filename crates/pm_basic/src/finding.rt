@@ -1,6 +1,8 @@
 //! Parts of a goal by name.
 
 ghost use Rattle.std.specs.Prelude.{◌≡◌, ◌+◌, ◌<◌, ◌^◌, length};
+ghost use Rattle.pm_table.specs.Stepping.{NamesDiffer};
+ghost use Rattle.pm_table.specs.Works.{has_hyp_or_fact};
 ghost use Rattle.pm_basic.specs.Named.{place_named};
 
 use pm_goal::Goal;
@@ -22,4 +24,13 @@ pub fn place_named(goal: &Goal, name: &Name) -> Option<u32>
         Some(i) => Some(i as u32),
         None => None,
     }
+}
+
+/// Whether a hypothesis or fact has the name.
+pub fn is_named(goal: &Goal, name: &Name) -> bool
+    requires few { length goal.now.pures + (length goal.now.ints + length goal.now.spats) < 2 ^ 32 }
+    requires apart { NamesDiffer goal.now }
+    ensures { result ≡ has_hyp_or_fact goal.now name.now }
+{
+    place_named(goal, name).is_some()
 }

@@ -5,10 +5,12 @@ mod choosing;
 mod clearing;
 mod concluding;
 mod finding;
+mod renaming;
 mod rules;
 mod splitting;
 mod steps;
 
 pub use choosing::{exfalso, exists, side};
 pub use clearing::clear;
+pub use renaming::rename;
 pub use splitting::split;

@@ -1,7 +1,7 @@
 use Rattle.std.proofs.Common.{sym, ◌∙◌, ap₂, subst}
 use Rattle.pm_logic.specs.declared.formula.Formula.TheViews as view
 use Rattle.pm_classes.specs.Entries.{IsHanded}
-use Rattle.pm_basic.proofs.Splits.{formula_and, formula_sep, formula_no_half}
+use Rattle.pm_basic.proofs.Splits.{formula_and, formula_no_half}
 use Rattle.pm_basic.proofs.splitting.halves_of.Goals as goal
 
 pub in_and-requires : goal.in_and-requires
