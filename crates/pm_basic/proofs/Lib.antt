@@ -6,3 +6,4 @@ pub mod Building
 pub mod Cleared
 pub mod Splits
 pub mod Renamed
+pub mod Reverted

@@ -2,3 +2,4 @@ pub mod Enough
 pub mod Named
 pub mod Halves
 pub mod Renamings
+pub mod Fronts
