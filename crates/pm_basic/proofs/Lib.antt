@@ -7,3 +7,5 @@ pub mod Cleared
 pub mod Splits
 pub mod Renamed
 pub mod Reverted
+pub mod Listing
+pub mod Dealt

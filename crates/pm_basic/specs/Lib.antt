@@ -3,3 +3,4 @@ pub mod Named
 pub mod Halves
 pub mod Renamings
 pub mod Fronts
+pub mod Deals

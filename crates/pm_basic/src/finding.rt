@@ -1,11 +1,11 @@
 //! Parts of a goal by name.
 
-ghost use Rattle.std.specs.Prelude.{◌≡◌, ◌+◌, ◌<◌, ◌^◌, length};
+ghost use Rattle.std.specs.Prelude.{◌≡◌, ◌+◌, ◌<◌, ◌^◌, length, is_some};
 ghost use Rattle.pm_table.specs.Stepping.{NamesDiffer};
-ghost use Rattle.pm_table.specs.Works.{has_hyp_or_fact};
+ghost use Rattle.pm_table.specs.Works.{hyp_named, has_hyp, has_hyp_or_fact};
 ghost use Rattle.pm_basic.specs.Named.{place_named};
 
-use pm_goal::Goal;
+use pm_goal::{Ctx, Goal};
 use pm_logic::Name;
 
 /// The place in the star of the hypothesis or fact of this name.
@@ -33,4 +33,18 @@ pub fn is_named(goal: &Goal, name: &Name) -> bool
     ensures { result ≡ has_hyp_or_fact goal.now name.now }
 {
     place_named(goal, name).is_some()
+}
+
+/// Whether a hypothesis of the context has the name.
+pub fn names_hypothesis(hyps: &Ctx, name: &Name) -> bool
+    ensures { result ≡ is_some (hyp_named name.now hyps.now) }
+{
+    hyps.place(name).is_some()
+}
+
+/// Whether a hypothesis has the name.
+pub fn is_hypothesis(goal: &Goal, name: &Name) -> bool
+    ensures { result ≡ has_hyp goal.now name.now }
+{
+    names_hypothesis(&goal.ints, name) || names_hypothesis(&goal.spats, name)
 }

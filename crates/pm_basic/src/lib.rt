@@ -4,6 +4,7 @@
 mod choosing;
 mod clearing;
 mod concluding;
+mod dealing;
 mod finding;
 mod renaming;
 mod reverting;
@@ -13,6 +14,7 @@ mod steps;
 
 pub use choosing::{exfalso, exists, side};
 pub use clearing::clear;
+pub use dealing::split_at;
 pub use renaming::rename;
 pub use reverting::revert;
 pub use splitting::split;
