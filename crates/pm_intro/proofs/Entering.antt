@@ -1,15 +1,18 @@
 -- The step from what is put behind a star, and ends with turns.
-use Rattle.std.proofs.Common.{◌≡◌, ℕ, zero, suc, ◌+◌, ◌*◌, ◌≤◌, List, [], ◌∷◌, length, refl, sym, ◌∙◌, ap, ap₂, subst, arith}
-use Rattle.std.specs.Prelude.{insert}
+use Rattle.std.proofs.Common.{◌≡◌, ℕ, zero, suc, ◌+◌, ◌*◌, ◌≤◌, Bool, List, [], ◌∷◌, length, refl, sym, ◌∙◌, ap, ap₂, subst, arith}
+use Rattle.std.specs.Prelude.{Result, insert}
 use Rattle.pm_logic.specs.declared.formula.Formula.{Formula}
 use Rattle.pm_logic.specs.declared.formula.Formula.TheViews as view
+use Rattle.pm_logic.specs.Scope.{Scoped}
 use Rattle.pm_logic.specs.Size.{depth_of}
 use Rattle.pm_goal.specs.declared.work.Work.{Work}
+use Rattle.pm_goal.specs.declared.refusal.StepFault.{StepFault}
 use Rattle.pm_goal.specs.Left.{left_of_work}
 use Rattle.pm_rules.specs.declared.rules.Entail.{Entail}
 use Rattle.pm_proof.specs.Trees.{Tree, Hole, entail, conclusion}
 use Rattle.pm_proof.specs.Valid.{EntailScoped}
 use Rattle.pm_proof.specs.Known.{Proves, Every, ScopedWhere}
+use Rattle.pm_proof.specs.declared.proof.Parts.{Parts}
 use Rattle.pm_proof.proofs.Fills.{weaker}
 use Rattle.pm_star.specs.Stars.{star, work_parts, room as star_room, Moves}
 use Rattle.pm_star.specs.Levels.{left_side, right_side}
@@ -17,9 +20,12 @@ use Rattle.pm_star.specs.Chains.{ChainProves, across}
 use Rattle.pm_star.proofs.Contexts.{work_star}
 use Rattle.pm_star.specs.Scopes.{star_depth}
 use Rattle.pm_star.proofs.Scoping.{depth_sep, star_is_deep}
-use Rattle.pm_action.specs.Meanings.{meaning, height}
+use Rattle.pm_table.specs.declared.place.Place.{Place}
+use Rattle.pm_table.specs.declared.place.Place.TheVariants.{Current as current}
+use Rattle.pm_action.specs.Meanings.{meaning, height, room, width}
+use Rattle.pm_action.specs.Acting.{IsActed, Ends}
 use Rattle.pm_action.proofs.Heights.{star_height, sides_height}
-use Rattle.pm_intro.specs.Ending.{HasMore, Reaches}
+use Rattle.pm_intro.specs.Ending.{OpensTo, HasMore, Reaches}
 
 pub hole_proves : (w : Work) → Proves Every (meaning w) (meaning w ∷ []) 0 (height w + 16) (length w.goal.vars) (Hole (meaning w))
 hole_proves w = record {
@@ -37,6 +43,18 @@ pub wanted_proves : (w : Work) (t : Tree) (n d k : ℕ) → t ≡ Hole (meaning 
 wanted_proves w t n d k is deep wide =
     let p = weaker Every (meaning w) (meaning w ∷ []) 0 (height w + 16) (length w.goal.vars) n d k (Hole (meaning w)) (omega arith) deep wide (hole_proves w) in
     subst (λ x. Proves Every (conclusion x) (meaning w ∷ []) n d k x) (sym is) p
+
+pub opens_to : (turns : List Bool) (w new : Work) (t wanted p : Tree) (r : Result (Parts Place) StepFault) → length new.goal.vars ≡ length w.goal.vars → new.goal.concl ≡ w.goal.concl → conclusion t ≡ entail (length w.goal.vars) (left_of_work w) (left_of_work new) → wanted ≡ Hole (meaning new) → ChainProves t wanted p → Ends (current turns new ∷ []) p r → OpensTo turns w new t r
+opens_to turns w new t wanted p r vars concl moved is chain ends s n fit known =
+    let k = length w.goal.vars in
+    let d = room w (current turns new ∷ []) in
+    let k1 = width w in
+    let hole : Proves Every (conclusion wanted) (meaning new ∷ []) 0 d k1 wanted = wanted_proves new wanted 0 d k1 is (omega arith) (omega (arith, vars)) in
+    let over : across t wanted ≡ meaning w = ap (λ x. across t x) is ∙ (ap (λ (e : Entail). entail e.vars e.left new.goal.concl) moved ∙ ap (λ c. entail k (left_of_work w) c) concl) in
+    let scope : ScopedWhere (across t wanted) (meaning new ∷ []) (conclusion t) = λ preds e hs. let whole : EntailScoped preds (meaning w) = subst (EntailScoped preds) over e in let new_left : Scoped preds k (left_of_work new) = subst (λ j. Scoped preds j (left_of_work new)) vars hs.0.0 in rw moved (whole.0, new_left) in
+    let all : Proves Every (across t wanted) (meaning new ∷ []) (n + 0 + 1) d k1 p = chain Every [] (meaning new ∷ []) n 0 d k1 known hole scope in
+    let acted : IsActed s w (current turns new ∷ []) p = weaker Every (meaning w) (meaning new ∷ []) (n + 0 + 1) d k1 _ d k1 p (omega (arith, fit)) (omega arith) (omega arith) (subst (λ e. Proves Every e (meaning new ∷ []) (n + 0 + 1) d k1 p) over all) in
+    ends s w acted
 
 -- ---- behind a star
 

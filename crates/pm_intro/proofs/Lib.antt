@@ -10,3 +10,9 @@ pub mod Generals
 pub mod ByKind
 pub mod InFront
 pub mod Alternatives
+pub mod Parted
+pub mod Said
+pub mod Openings
+pub mod OpenEnds
+pub mod Ways
+pub mod BodyHeld

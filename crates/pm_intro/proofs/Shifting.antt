@@ -1,6 +1,7 @@
 -- The star of a work with a variable more is the star with each index one higher.
 use Rattle.std.proofs.Common.{◌≡◌, ℕ, ◌+◌, ◌≤◌, inl, inr, List, [], ◌∷◌, ◌++◌, length, map, refl, sym, ◌∙◌, ap, ap₂, subst, arith}
 use Rattle.std.specs.List.{AllByRecursion}
+use Rattle.std.proofs.lemmas.List.{length-map}
 use denote.Hole.Carrier as carrier
 use Rattle.pm_logic.specs.declared.formula.Pure.{Pure}
 use Rattle.pm_logic.specs.declared.formula.Pure.TheVariants as pure
@@ -20,21 +21,28 @@ use Rattle.pm_goal.specs.declared.work.Kind.TheVariants as kind
 use Rattle.pm_goal.specs.declared.work.Held.{Held}
 use Rattle.pm_goal.specs.declared.work.Work.{Work}
 use Rattle.pm_goal.specs.Left.{star_onto, of_kind, facts, hyps_as, hyps, held_parts, left_of_work}
+use Rattle.pm_star.specs.Stars.{work_parts}
 use Rattle.pm_classes.proofs.Undone.{shift_pers}
 use Rattle.pm_table.specs.Occurrences.{shifted_pure}
 use Rattle.pm_table.specs.Limits.{formulas, work_formulas, greatest_depth}
 use Rattle.pm_table.specs.Stepping.{NamesDiffer}
+use Rattle.pm_table.specs.Works as works
 use Rattle.pm_table.specs.Works.{Named, each_fact, each_hyp, each_held}
-use Rattle.pm_action.specs.Acting.{IsHanded}
-use Rattle.pm_action.proofs.Heights.{star_height}
+use Rattle.pm_action.specs.Acting.{IsHanded, IsLast}
+use Rattle.pm_action.proofs.Heights.{star_height, parts_are}
+use Rattle.pm_intro.specs.Hands.{rest}
 use Rattle.pm_intro.specs.Variables.{IsLiftable, lifted}
-use Rattle.pm_intro.proofs.Handed.{all_parts}
+use Rattle.pm_intro.proofs.Handed.{all_parts, last_all, concl_all}
 
 -- ---- shifting goes through signs
 
 pub shift_sep : (a b : Formula) → shift_of (view.Sep a b) ≡ view.Sep (shift_of a) (shift_of b)
 unfolding block.shape-the_row-Formula-0 block.hidden-the_row-Formula-0 carrier.hidden in_formula
 shift_sep a b = refl
+
+pub shift_wand : (a b : Formula) → shift_of (view.Wand a b) ≡ view.Wand (shift_of a) (shift_of b)
+unfolding block.shape-the_row-Formula-0 block.hidden-the_row-Formula-0 carrier.hidden in_formula
+shift_wand a b = refl
 
 pub shift_fact : (p : Pure) → shift_of (Assert p) ≡ Assert (shifted_pure p)
 unfolding in_formula
@@ -85,6 +93,19 @@ lifted_star x c w =
     (onto_is (hyps g.spats) _ _ _ (shift_hyps kind.Spat g.spats)
     (onto_is (held_parts w.held) _ _ _ (shift_held w.held) shift_truth)))
 
+-- as many parts
+pub lifted_count : (x : Named) (c : Formula) (w : Work) → length (work_parts (lifted x c w)) ≡ length (work_parts w)
+lifted_count x c w =
+    omega (
+      arith,
+      parts_are w,
+      parts_are (lifted x c w),
+      length-map w.goal.pures (λ (f : Fact). works.fact f.name (shifted_pure f.pure)),
+      length-map w.goal.ints (λ (h : Hyp). works.hyp h.name (shift_of h.formula)),
+      length-map w.goal.spats (λ (h : Hyp). works.hyp h.name (shift_of h.formula)),
+      length-map w.held (λ (h : Held). works.holding h.kind (shift_of h.formula)),
+    )
+
 pub lifted_vars : (x : Named) (xs : List Named) → length (xs ++ x ∷ []) ≡ length xs + 1
 lifted_vars x [] = refl
 lifted_vars x (y ∷ xs) = omega (arith, lifted_vars x xs)
@@ -119,6 +140,12 @@ liftable w apart all =
 
 pub work_liftable : (w : Work) → IsHanded w → IsLiftable w
 work_liftable w h = liftable w h.apart (formulas_bounded w h)
+
+pub rest_liftable : (w : Work) (l : Held) → IsLast w l → IsHanded w → IsLiftable (rest w)
+rest_liftable w l is h = liftable (rest w) h.apart (last_all w l is IsBounded (formulas_bounded w h)).0
+
+pub concl_bounded : (w : Work) → IsHanded w → IsBounded w.goal.concl
+concl_bounded w h = concl_all IsBounded w (formulas_bounded w h)
 
 -- ---- the star is scoped where the formulas are
 
@@ -156,3 +183,6 @@ work_in w h = star_in (length w.goal.vars) w h.scoped
 
 pub star_bounded : (w : Work) (st : Formula) → IsHanded w → st ≡ left_of_work w → IsBounded st
 star_bounded w st h is = subst IsBounded (sym is) (record { vars = length w.goal.vars; scoped = work_in w h; within = omega (arith, star_height w, h.few, h.shallow) })
+
+pub rest_in : (w : Work) (l : Held) → IsLast w l → IsHanded w → ScopedIn (length w.goal.vars) (left_of_work (rest w))
+rest_in w l is h = star_in (length w.goal.vars) (rest w) (last_all w l is (ScopedIn (length w.goal.vars)) h.scoped).0

@@ -4,4 +4,5 @@ pub mod Cases
 pub mod Ending
 pub mod Arrows
 pub mod Fronts
+pub mod Pairs
 pub mod Variables

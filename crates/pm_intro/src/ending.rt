@@ -1,12 +1,13 @@
 //! Ends of actions that leave patterns to come, and the step from a star with one part more.
 
 ghost use Rattle.std.specs.Prelude.{◌≡◌, ◌<◌, ◌^◌, [], ◌∷◌, IfOk, length};
-ghost use Rattle.pm_proof.specs.Trees.{conclusion};
+ghost use Rattle.pm_goal.specs.Left.{left_of_work};
+ghost use Rattle.pm_proof.specs.Trees.{entail, conclusion};
 ghost use Rattle.pm_star.specs.Stars.{work_parts};
 ghost use Rattle.pm_table.specs.declared.place.Place.TheVariants.{Current as current};
 ghost use Rattle.pm_action.specs.Acting.{Ends};
 ghost use Rattle.pm_intro.specs.Cases.{cases};
-ghost use Rattle.pm_intro.specs.Ending.{HasMore, Reaches};
+ghost use Rattle.pm_intro.specs.Ending.{OpensTo, HasMore, Reaches};
 
 use pm_action::{finish, wanted};
 use pm_goal::{StepFault, Work};
@@ -24,6 +25,22 @@ pub fn open_place(alloc: Global, first: bool, second: bool, work: Work) -> Resul
     turns.push(first)?;
     turns.push(second)?;
     Ok(Place::Current(turns, work))
+}
+
+/// The end with this work alone.
+pub fn finish_open(
+    alloc: Global,
+    first: bool,
+    second: bool,
+    work: Work,
+    proof: Proof,
+) -> Result<Parts<Place>, StepFault>
+    ensures { Ends (current (first ∷ second ∷ []) work ∷ []) proof result }
+{
+    let place = open_place(alloc, first, second, work)?;
+    let mut places = List::new(alloc);
+    places.push(place)?;
+    finish(alloc, places, proof)
 }
 
 /// The end with these two places.
@@ -54,6 +71,26 @@ pub fn finish_cases(
     let left = open_place(alloc, true, false, left)?;
     let right = open_place(alloc, false, true, right)?;
     finish_both(alloc, left, right, proof)
+}
+
+/// The new work in place of the old one, whose star entails the new one's by `moved`.
+pub fn by_move_open(
+    alloc: Global,
+    work: &Work,
+    first: bool,
+    second: bool,
+    new: Work,
+    moved: Proof,
+) -> Result<Parts<Place>, StepFault>
+    requires few { length work.now.goal.vars < 2 ^ 32 }
+    requires vars { length new.goal.vars ≡ length work.now.goal.vars }
+    requires concl { new.goal.concl ≡ work.now.goal.concl }
+    requires moved { conclusion moved ≡ entail (length work.now.goal.vars) (left_of_work work.now) (left_of_work new) }
+    ensures { OpensTo (first ∷ second ∷ []) work.now new moved result }
+{
+    let wanted = wanted(alloc, &new)?;
+    let proof = compose(alloc, moved, wanted)?;
+    finish_open(alloc, first, second, new, proof)
 }
 
 /// From what the new work means, which is the hole: its conclusion, by the part beside the old work's star.

@@ -42,3 +42,23 @@ pub fn with_one(alloc: Global, work: &Work, kind: Kind, formula: &Formula) -> Re
     held.push(Held { kind, formula })?;
     Ok(Work { goal, held })
 }
+
+/// The work with these two in place of what is last in hand.
+pub fn with_two(
+    alloc: Global,
+    work: &Work,
+    kind: Kind,
+    before: &Formula,
+    last: &Formula,
+) -> Result<Work, Memory>
+    requires { 0 < length work.now.held }
+    ensures { IfOk result (λ w. w ≡ kept work.now (holding kind before.now ∷ holding kind last.now ∷ [])) }
+{
+    let goal = copy_goal(alloc, &work.goal)?;
+    let mut held = others(alloc, work)?;
+    let formula = copy(alloc, before)?;
+    held.push(Held { kind, formula })?;
+    let formula = copy(alloc, last)?;
+    held.push(Held { kind, formula })?;
+    Ok(Work { goal, held })
+}

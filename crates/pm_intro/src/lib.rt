@@ -9,10 +9,13 @@ mod ending;
 mod entries;
 mod fronts;
 mod hands;
+mod pairing;
 mod steps;
 mod universal;
 mod variables;
+mod witness;
 
 pub use arrows::intro_hyp;
 pub use cases::either;
+pub use pairing::pair;
 pub use universal::{intro_all, intro_all_fresh};

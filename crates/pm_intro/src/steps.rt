@@ -10,7 +10,7 @@ ghost use Rattle.pm_intro.specs.Closing.{Closes, ClosesBoth};
 use crate::closing::{close, close_both};
 use pm_logic::{Formula, Memory};
 use pm_proof::Proof;
-use pm_schemes::{Letters, Pattern, Scheme, and, derive, gap, imp, or, pers, sep, step, wand};
+use pm_schemes::{Letters, Pattern, Scheme, and, derive, ex, gap, imp, or, pers, sep, step, wand};
 use std::alloc::Global;
 
 const A: Pattern = Pattern::Letter(0);
@@ -20,6 +20,34 @@ const B: Pattern = Pattern::Letter(1);
 const X: Pattern = Pattern::Letter(2);
 
 const Y: Pattern = Pattern::Letter(3);
+
+/// From A ⊢ B ∗ X: A ⊢ X ∗ B.
+static SWAPPED: Scheme = step!(
+    Trans, A => sep!(X, B);
+    gap!(A => sep!(B, X));
+    step!(SepComm, sep!(B, X) => sep!(X, B))
+);
+
+/// From `a ⊢ b ∗ x`: `a ⊢ x ∗ b`.
+#[tactic(auto, unfolding(pm_schemes::specs::Tests::passes, pm_schemes::specs::Tests::fits_row))]
+pub fn swapped(
+    alloc: Global,
+    vars: u32,
+    a: &Formula,
+    b: &Formula,
+    x: &Formula,
+    by: Proof,
+) -> Result<Proof, Memory>
+    requires { conclusion by ≡ entail vars a.now (view.Sep b.now x.now) }
+    ensures { IfOk result (λ p. Closes by (entail vars a.now (view.Sep x.now b.now)) 2 (deepest (a.now ∷ b.now ∷ x.now ∷ []) [] + 1) vars p) }
+{
+    let letters = Letters {
+        formulas: &[a, b, x],
+        pures: &[],
+    };
+    let proof = close(alloc, vars, &SWAPPED, letters, by)?;
+    Ok(proof)
+}
 
 /// From A ⊢ □ A: B ∧ A ⊢ A ∗ B.
 static RIGHT_BOXED: Scheme = step!(
@@ -232,6 +260,86 @@ pub fn by_cases(
     Ok(proof)
 }
 
+/// From A ∗ B ⊢ X: A ⊢ B -∗ X.
+static CURRIED: Scheme = step!(WandI, A => wand!(B, X); gap!(sep!(A, B) => X));
+
+/// From `a ∗ b ⊢ x`: `a ⊢ b -∗ x`.
+#[tactic(auto, unfolding(pm_schemes::specs::Tests::passes, pm_schemes::specs::Tests::fits_row))]
+pub fn curried(
+    alloc: Global,
+    vars: u32,
+    a: &Formula,
+    b: &Formula,
+    x: &Formula,
+    by: Proof,
+) -> Result<Proof, Memory>
+    requires { conclusion by ≡ entail vars (view.Sep a.now b.now) x.now }
+    ensures { IfOk result (λ p. Closes by (entail vars a.now (view.Wand b.now x.now)) 1 (deepest (a.now ∷ b.now ∷ x.now ∷ []) [] + 1) vars p) }
+{
+    let letters = Letters {
+        formulas: &[a, b, x],
+        pures: &[],
+    };
+    let proof = close(alloc, vars, &CURRIED, letters, by)?;
+    Ok(proof)
+}
+
+/// From A ⊢ B -∗ X: A ∗ B ⊢ X.
+static APPLIED: Scheme = step!(WandE, sep!(A, B) => X; gap!(A => wand!(B, X)));
+
+/// From `a ⊢ b -∗ x`: `a ∗ b ⊢ x`.
+#[tactic(auto, unfolding(pm_schemes::specs::Tests::passes, pm_schemes::specs::Tests::fits_row))]
+pub fn applied(
+    alloc: Global,
+    vars: u32,
+    a: &Formula,
+    b: &Formula,
+    x: &Formula,
+    by: Proof,
+) -> Result<Proof, Memory>
+    requires { conclusion by ≡ entail vars a.now (view.Wand b.now x.now) }
+    ensures { IfOk result (λ p. Closes by (entail vars (view.Sep a.now b.now) x.now) 1 (deepest (a.now ∷ b.now ∷ x.now ∷ []) [] + 1) vars p) }
+{
+    let letters = Letters {
+        formulas: &[a, b, x],
+        pures: &[],
+    };
+    let proof = close(alloc, vars, &APPLIED, letters, by)?;
+    Ok(proof)
+}
+
+/// A ∧ B ⊢ A
+static LEFT_PART: Scheme = step!(AndL, and!(A, B) => A);
+
+/// `a ∧ b ⊢ a`
+#[tactic(auto, unfolding(pm_schemes::specs::Tests::passes, pm_schemes::specs::Tests::fits_row))]
+pub fn left_part(alloc: Global, vars: u32, a: &Formula, b: &Formula) -> Result<Proof, Memory>
+    ensures { IfOk result (λ p. Proves Every (entail vars (view.And a.now b.now) a.now) [] 1 (deepest (a.now ∷ b.now ∷ []) [] + 1) vars p) }
+{
+    let letters = Letters {
+        formulas: &[a, b],
+        pures: &[],
+    };
+    let proof = derive(alloc, vars, &LEFT_PART, letters)?;
+    Ok(proof)
+}
+
+/// A ∧ B ⊢ B
+static RIGHT_PART: Scheme = step!(AndR, and!(A, B) => B);
+
+/// `a ∧ b ⊢ b`
+#[tactic(auto, unfolding(pm_schemes::specs::Tests::passes, pm_schemes::specs::Tests::fits_row))]
+pub fn right_part(alloc: Global, vars: u32, a: &Formula, b: &Formula) -> Result<Proof, Memory>
+    ensures { IfOk result (λ p. Proves Every (entail vars (view.And a.now b.now) b.now) [] 1 (deepest (a.now ∷ b.now ∷ []) [] + 1) vars p) }
+{
+    let letters = Letters {
+        formulas: &[a, b],
+        pures: &[],
+    };
+    let proof = derive(alloc, vars, &RIGHT_PART, letters)?;
+    Ok(proof)
+}
+
 /// From A ⊢ B ∨ X: □ A ⊢ □ B ∨ □ X.
 static BOXED_EITHER: Scheme = step!(
     Trans, pers!(A) => or!(pers!(B), pers!(X));
@@ -257,5 +365,32 @@ pub fn boxed_either(
         pures: &[],
     };
     let proof = close(alloc, vars, &BOXED_EITHER, letters, by)?;
+    Ok(proof)
+}
+
+/// From A ⊢ ∃ B: □ A ⊢ ∃ □ B.
+static BOXED_EXISTS: Scheme = step!(
+    Trans, pers!(A) => ex!(pers!(B));
+    step!(PersMono, pers!(A) => pers!(ex!(B)); gap!(A => ex!(B)));
+    step!(PersEx, pers!(ex!(B)) => ex!(pers!(B)))
+);
+
+/// From `a ⊢ ∃ b`: `□ a ⊢ ∃ □ b`.
+#[tactic(auto, unfolding(pm_schemes::specs::Tests::passes, pm_schemes::specs::Tests::fits_row))]
+pub fn boxed_exists(
+    alloc: Global,
+    vars: u32,
+    a: &Formula,
+    b: &Formula,
+    by: Proof,
+) -> Result<Proof, Memory>
+    requires { conclusion by ≡ entail vars a.now (view.Ex b.now) }
+    ensures { IfOk result (λ p. Closes by (entail vars (view.Pers a.now) (view.Ex (view.Pers b.now))) 3 (deepest (a.now ∷ b.now ∷ []) [] + 2) vars p) }
+{
+    let letters = Letters {
+        formulas: &[a, b],
+        pures: &[],
+    };
+    let proof = close(alloc, vars, &BOXED_EXISTS, letters, by)?;
     Ok(proof)
 }
