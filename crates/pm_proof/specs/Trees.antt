@@ -126,9 +126,9 @@ splice (x ∷ xs) (suc i) zs = x ∷ splice xs i zs
 abbrev pub empty : Entail
 empty = entail 0 (Fact True) (Fact True)
 
--- the number of holes as far as 128 bits go
+-- the number of holes as far as 64 bits go
 abbrev pub IsCount : ℕ → Tree → Type 0
-IsCount n t = n ≡ min (hole_count t) (2 ^ 128 - 1)
+IsCount n t = n ≡ min (hole_count t) (2 ^ 64 - 1)
 
 abbrev pub levels : Tree → ℕ
 levels (Hole e) = 0

@@ -16,8 +16,9 @@ use std::mem;
 /// A proof, which contracts see as its tree.
 #[cycle(proof)]
 pub struct Proof {
-    /// How many holes it has, where they fit. It lets a hole be found without a walk over the whole tree.
-    pub(crate) count: u128,
+    /// How many holes it has, and the greatest number of the type where there are more. It lets a hole be found without a
+    /// walk over the whole tree.
+    pub(crate) count: u64,
     pub(crate) node: Box<Node>,
 }
 
@@ -137,7 +138,7 @@ impl Proof {
     pub fn holes(&self) -> u64
         ensures { result ≡ min (hole_count self.now) (2 ^ 64 - 1) }
     {
-        self.count.min(u128::from(u64::MAX)) as u64
+        self.count
     }
 
     /// The proof with this root.
@@ -173,24 +174,43 @@ impl Proof {
         taken(&mut self.node)
     }
 
-    /// How many holes there are, and the greatest number of the type where there are more.
+    /// How many holes it has, and the greatest number of the type where there are more. No memory holds a proof whose holes
+    /// want the walk.
     pub(crate) fn counted(&self) -> u128
         ensures { result ≡ min (hole_count self.now) (2 ^ 128 - 1) }
     {
-        self.count
+        if self.count < u64::MAX {
+            u128::from(self.count)
+        } else {
+            self.counted_by_walk()
+        }
+    }
+
+    /// The same by a walk over the whole tree.
+    #[cycle(counting)]
+    fn counted_by_walk(&self) -> u128
+        ensures { result ≡ min (hole_count self.now) (2 ^ 128 - 1) }
+    {
+        match &*self.node {
+            Node::Hole(_) => 1,
+            Node::Axiom(_, _) => 0,
+            Node::First(_, _, a) => a.counted_by_walk(),
+            Node::Second(_, _, b) => b.counted_by_walk(),
+            Node::Both(_, _, a, b) => a.counted_by_walk().saturating_add(b.counted_by_walk()),
+        }
     }
 }
 
 /// How many holes there are under the root, and the greatest number of the type where there are more.
-pub(crate) fn count_of(node: &Node) -> u128
-    ensures { result ≡ min (hole_count (tree_of node.now)) (2 ^ 128 - 1) }
+pub(crate) fn count_of(node: &Node) -> u64
+    ensures { result ≡ min (hole_count (tree_of node.now)) (2 ^ 64 - 1) }
 {
     match node {
         Node::Hole(_) => 1,
         Node::Axiom(_, _) => 0,
-        Node::First(_, _, a) => a.counted(),
-        Node::Second(_, _, b) => b.counted(),
-        Node::Both(_, _, a, b) => a.counted().saturating_add(b.counted()),
+        Node::First(_, _, a) => a.holes(),
+        Node::Second(_, _, b) => b.holes(),
+        Node::Both(_, _, a, b) => a.holes().saturating_add(b.holes()),
     }
 }
 
