@@ -4,6 +4,7 @@ pub mod Tables
 pub mod Wording
 pub mod Growing
 pub mod Fitting
+pub mod Recalling
 pub mod Placing
 pub mod Looping
 pub mod Stating

@@ -11,7 +11,7 @@ use Rattle.pm_proof.proofs.Copies.{unfold_parts, same_trees, behind}
 use Rattle.pm_dtext.specs.declared.line.Line.{Line}
 use Rattle.pm_write.specs.declared.written.Written.{Written}
 use Rattle.pm_write.specs.declared.written.Earlier.{Earlier}
-use Rattle.pm_write.specs.Writing.{Holds, Grows, Reaches, Places, Stand, Cites, AreThere, IsSound}
+use Rattle.pm_write.specs.Writing.{Holds, Grows, Reaches, Recalls, Places, Stand, Cites, AreThere, AreRecalled, IsSound}
 use Rattle.pm_write.proofs.Growing.{grows_none, grows_then}
 
 -- ---- parts
@@ -41,21 +41,21 @@ there_grown preds base w g (k ∷ earlier) h = (g.kept k.number k.entail.now h.0
 -- ---- the loop over the parts of a proof
 
 -- what the lines come to of trees that are done, where the parts ahead are still to be done
-pub record Goes (old w : Written) (earlier : List Earlier) (proof : Tree) (ahead : List Tree) (numbers : List ℕ) : Type 0 where
+pub record Goes (old w : Written) (earlier : List Earlier) (proof : Tree) (ahead : List Tree) (numbers : List ℕ) (recalled : List (Option Earlier)) : Type 0 where
   pub done : List Tree
   pub whole : ahead ++ parts_of_all done ≡ parts_of_all (proof ∷ [])
-  pub places : (preds : Preds) (base : List Line) → Holds preds old base → AreThere base earlier → Valid preds proof → Fits preds proof → Places preds base w done numbers
+  pub places : (preds : Preds) (base : List Line) → Holds preds old base → AreThere base earlier → Valid preds proof → Fits preds proof → Places preds base w done numbers recalled
 
-pub goes_none : (w : Written) (earlier : List Earlier) (proof : Tree) (ahead : List Tree) (numbers : List ℕ) → ahead ≡ parts_of_all (proof ∷ []) → numbers ≡ [] → Goes w w earlier proof ahead (reverse numbers)
-goes_none w earlier proof ahead numbers all none = record {
+pub goes_none : (w : Written) (earlier : List Earlier) (proof : Tree) (ahead : List Tree) (numbers : List ℕ) (recalled : List (Option Earlier)) → ahead ≡ parts_of_all (proof ∷ []) → numbers ≡ [] → ((lines : List Line) → AreRecalled lines recalled) → Goes w w earlier proof ahead (reverse numbers) recalled
+goes_none w earlier proof ahead numbers recalled all none known = record {
   done = [];
   whole = append-nil ahead ∙ all;
-  places = λ preds base h there v f. record { grows = grows_none preds w base h; stand = subst (λ ns. Stand base [] (reverse ns)) (sym none) tt };
+  places = λ preds base h there v f. record { grows = grows_none preds w base h; stand = subst (λ ns. Stand base [] (reverse ns)) (sym none) tt; recalled = known base };
 }
 
 -- what is said of a part's line
-abbrev pub Parted : Written → Written → List Earlier → Tree → List ℕ → List ℕ → Type 0
-Parted old new earlier t numbers numbers' = (preds : Preds) (lines : List Line) (rest : List Tree) → Holds preds old lines → AreThere lines earlier → IsSound preds t → Stand lines (premises_of t ++ rest) numbers → Places preds lines new (t ∷ rest) numbers'
+abbrev pub Parted : Written → Written → List Earlier → Tree → List ℕ → List ℕ → List (Option Earlier) → List (Option Earlier) → Type 0
+Parted old new earlier t numbers numbers' recalled recalled' = (preds : Preds) (lines : List Line) (rest : List Tree) → Holds preds old lines → AreThere lines earlier → AreRecalled lines recalled → IsSound preds t → Stand lines (premises_of t ++ rest) numbers → Places preds lines new (t ∷ rest) numbers' recalled'
 
 stand_grown : (preds : Preds) (base : List Line) (w : Written) (g : Grows preds base w) (ts : List Tree) (ns : List ℕ) → Stand base ts ns → Stand g.lines ts ns
 stand_grown preds base w g [] [] h = tt
@@ -63,20 +63,20 @@ stand_grown preds base w g [] (n ∷ ns) h = absurd h
 stand_grown preds base w g (t ∷ ts) [] h = absurd h
 stand_grown preds base w g (t ∷ ts) (n ∷ ns) h = (g.kept n (conclusion t) h.0, stand_grown preds base w g ts ns h.1)
 
-pub parted : (old new : Written) (earlier : List Earlier) (t : Tree) (first second : Option ℕ) (numbers mid final : List ℕ) (n : ℕ)
+pub parted : (old new : Written) (earlier : List Earlier) (t : Tree) (first second : Option ℕ) (numbers mid final : List ℕ) (recalled recalled' : List (Option Earlier)) (n : ℕ)
     → ((lines : List Line) (rest : List Tree) → Stand lines (premises_of t ++ rest) numbers → Cites lines (premises_of t) first second × Stand lines rest mid)
-    → ((preds : Preds) (lines : List Line) → Holds preds old lines → AreThere lines earlier → IsSound preds t → Cites lines (premises_of t) first second → Reaches preds lines new n (conclusion t))
-    → final ≡ n ∷ mid → Parted old new earlier t numbers final
-parted old new earlier t first second numbers mid final n taken placed is preds lines rest h there sound stand =
+    → ((preds : Preds) (lines : List Line) → Holds preds old lines → AreThere lines earlier → AreRecalled lines recalled → IsSound preds t → Cites lines (premises_of t) first second → Recalls preds lines new n (conclusion t) recalled')
+    → final ≡ n ∷ mid → Parted old new earlier t numbers final recalled recalled'
+parted old new earlier t first second numbers mid final recalled recalled' n taken placed is preds lines rest h there known sound stand =
     let c : Cites lines (premises_of t) first second × Stand lines rest mid = taken lines rest stand in
-    let r : Reaches preds lines new n (conclusion t) = placed preds lines h there sound c.0 in
-    record { grows = r.grows; stand = subst (λ ns. Stand r.grows.lines (t ∷ rest) ns) (sym is) (r.there, stand_grown preds lines new r.grows rest mid c.1) }
+    let r : Recalls preds lines new n (conclusion t) recalled' = placed preds lines h there known sound c.0 in
+    record { grows = r.grows; stand = subst (λ ns. Stand r.grows.lines (t ∷ rest) ns) (sym is) (r.there, stand_grown preds lines new r.grows rest mid c.1); recalled = r.recalled }
 
 pub pushed : (items new : List ℕ) (n : ℕ) → new ≡ items ++ n ∷ [] → reverse new ≡ n ∷ reverse items
 pushed items new n e = ap reverse e ∙ reverse-append items (n ∷ [])
 
-pub goes_more : (old w v : Written) (earlier : List Earlier) (proof t : Tree) (before ahead : List Tree) (numbers numbers' : List ℕ) → before ≡ ahead ++ t ∷ [] → Goes old w earlier proof before numbers → Parted w v earlier t numbers numbers' → Goes old v earlier proof ahead numbers'
-goes_more old w v earlier proof t before ahead numbers numbers' last g part =
+pub goes_more : (old w v : Written) (earlier : List Earlier) (proof t : Tree) (before ahead : List Tree) (numbers numbers' : List ℕ) (recalled recalled' : List (Option Earlier)) → before ≡ ahead ++ t ∷ [] → Goes old w earlier proof before numbers recalled → Parted w v earlier t numbers numbers' recalled recalled' → Goes old v earlier proof ahead numbers' recalled'
+goes_more old w v earlier proof t before ahead numbers numbers' recalled recalled' last g part =
     let e : ahead ++ t ∷ parts_of_all g.done ≡ parts_of_all (proof ∷ []) = sym (append_assoc ahead (t ∷ []) (parts_of_all g.done)) ∙ ap (λ l. l ++ parts_of_all g.done) (sym last) ∙ g.whole in
     let b = behind ahead t (parts_of_all g.done) (proof ∷ []) e in
     let is : g.done ≡ premises_of t ++ b.rest = same_trees g.done (premises_of t ++ b.rest) b.is in
@@ -84,16 +84,16 @@ goes_more old w v earlier proof t before ahead numbers numbers' last g part =
       done = t ∷ b.rest;
       whole = ap (λ l. ahead ++ l) (unfold_parts t b.rest ∙ ap (λ l. t ∷ l) (sym b.is)) ∙ e;
       places = λ preds base h there v f.
-          let p : Places preds base w g.done numbers = g.places preds base h there v f in
-          let q = part preds p.grows.lines b.rest p.grows.holds (there_grown preds base w p.grows earlier there) (part_sound preds proof ahead t (parts_of_all g.done) e v f) (subst (λ ts. Stand p.grows.lines ts numbers) is p.stand) in
-          record { grows = grows_then preds base w _ p.grows q.grows; stand = q.stand };
+          let p : Places preds base w g.done numbers recalled = g.places preds base h there v f in
+          let q = part preds p.grows.lines b.rest p.grows.holds (there_grown preds base w p.grows earlier there) p.recalled (part_sound preds proof ahead t (parts_of_all g.done) e v f) (subst (λ ts. Stand p.grows.lines ts numbers) is p.stand) in
+          record { grows = grows_then preds base w _ p.grows q.grows; stand = q.stand; recalled = q.recalled };
     }
 
-pub goes_whole : (old w : Written) (earlier : List Earlier) (proof : Tree) (ahead : List Tree) (numbers front : List ℕ) (n : ℕ) → ahead ≡ [] → numbers ≡ front ++ n ∷ [] → Goes old w earlier proof ahead (reverse numbers)
+pub goes_whole : (old w : Written) (earlier : List Earlier) (proof : Tree) (ahead : List Tree) (numbers front : List ℕ) (recalled : List (Option Earlier)) (n : ℕ) → ahead ≡ [] → numbers ≡ front ++ n ∷ [] → Goes old w earlier proof ahead (reverse numbers) recalled
     → (preds : Preds) (base : List Line) → Holds preds old base → AreThere base earlier → Valid preds proof → Fits preds proof → Reaches preds base w n (conclusion proof)
-goes_whole old w earlier proof ahead numbers front n none last g preds base h there v f =
+goes_whole old w earlier proof ahead numbers front recalled n none last g preds base h there v f =
     let done : g.done ≡ proof ∷ [] = same_trees g.done (proof ∷ []) (ap (λ l. l ++ parts_of_all g.done) (sym none) ∙ g.whole) in
-    let p : Places preds base w g.done (reverse numbers) = g.places preds base h there v f in
+    let p : Places preds base w g.done (reverse numbers) recalled = g.places preds base h there v f in
     let ns : reverse numbers ≡ n ∷ reverse front = ap reverse last ∙ reverse-append front (n ∷ []) in
     let s : Stand p.grows.lines (proof ∷ []) (n ∷ reverse front) = subst (λ ts. Stand p.grows.lines ts (n ∷ reverse front)) done (subst (λ l. Stand p.grows.lines g.done l) ns p.stand) in
     record { grows = p.grows; there = s.0 }

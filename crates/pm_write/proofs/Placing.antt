@@ -1,6 +1,6 @@
 -- The line of a part of a proof.
 use Rattle.std.proofs.Common.{◌<◌, length, get_or, arith, Result, Ok, Err, ◌≡◌, ℕ, zero, suc, List, [], ◌∷◌, refl, sym, ◌∙◌, ap, subst, Option, Some, None}
-use Rattle.std.specs.Prelude.{slice_get, map, MatchOption, IfOk}
+use Rattle.std.specs.Prelude.{slice_get, slice_set, map, MatchOption}
 use Rattle.pm_logic.specs.declared.list.Memory.{Memory}
 use Rattle.pm_logic.specs.declared.formula.Preds.{Preds}
 use Rattle.pm_rules.specs.declared.rules.Rule.{Rule}
@@ -14,8 +14,9 @@ use Rattle.pm_dtext.specs.declared.line.Line.TheVariants.{Step}
 use Rattle.pm_check.specs.Lines.{steps, proof_line}
 use Rattle.pm_write.specs.declared.written.Written.{Written}
 use Rattle.pm_write.specs.declared.written.Earlier.{Earlier}
-use Rattle.pm_write.specs.Writing.{Holds, Adds, Reaches, Cites, AreThere, IsConcluded, IsSound, RuleIsI64, EntailIsI64}
+use Rattle.pm_write.specs.Writing.{Holds, Adds, Reaches, Recalls, Cites, AreThere, AreRecalled, IsConcluded, IsRecalled, IsSound, RuleIsI64, EntailIsI64}
 use Rattle.pm_write.proofs.Growing.{grows_none, grows_step}
+use Rattle.pm_write.proofs.Recalling.{recalled_at, recalled_kept, recalled_set}
 use Rattle.pm_write.proofs.Fitting.{next_step}
 
 -- ---- holes
@@ -25,10 +26,20 @@ there_at lines [] i k there at = absurd cc
 there_at lines (x ∷ earlier) zero k there at = let same : x ≡ k = cc in subst (λ (y : Earlier). proof_line (steps lines) y.number ≡ Some y.entail.now) same there.0
 there_at lines (x ∷ earlier) (suc i) k there at = there_at lines earlier i k there.1 at
 
-pub reaches_hole : (preds : Preds) (w : Written) (lines : List Line) (earlier : List Earlier) (n : ℕ) (e f : Entail) → e ≡ f → IsConcluded earlier e n → Holds preds w lines → AreThere lines earlier → Reaches preds lines w n f
-reaches_hole preds w lines earlier n e f same known h there = record {
+pub reaches_hole : (preds : Preds) (w : Written) (lines : List Line) (earlier : List Earlier) (places : List (Option Earlier)) (n : ℕ) (e f : Entail) → e ≡ f → IsConcluded earlier e n → Holds preds w lines → AreThere lines earlier → AreRecalled lines places → Recalls preds lines w n f places
+reaches_hole preds w lines earlier places n e f same known h there recalled = record {
   grows = grows_none preds w lines h;
   there = ap (λ m. proof_line (steps lines) m) (sym known.number_is) ∙ there_at lines earlier known.place known.item there known.there ∙ ap (λ x. Some x) (known.entail_is ∙ same);
+  recalled = recalled;
+}
+
+-- ---- lines that are recalled
+
+pub reaches_recalled : (preds : Preds) (w : Written) (lines : List Line) (places : List (Option Earlier)) (n : ℕ) (e f : Entail) → e ≡ f → IsRecalled places e n → Holds preds w lines → AreRecalled lines places → Recalls preds lines w n f places
+reaches_recalled preds w lines places n e f same known h recalled = record {
+  grows = grows_none preds w lines h;
+  there = ap (λ m. proof_line (steps lines) m) (sym known.number_is) ∙ recalled_at lines places known.place known.item recalled known.there ∙ ap (λ x. Some x) (known.entail_is ∙ same);
+  recalled = recalled;
 }
 
 -- ---- rules
@@ -41,10 +52,17 @@ reaches_rule preds old new lines part r first second n e is same adds ri ei h so
     (grows_step preds old new n lines r first second e adds h
     (next_step preds lines (premises_of part) r first second e h.few cites (subst (λ x. RuleOk preds r (map conclusion (premises_of part)) x) (sym same) s.0) (subst (λ x. RuleFits preds r x) (sym same) s.1) ri ei.left ei.right))
 
-pub rule_if : (old new : Written) (earlier : List Earlier) (part : Tree) (r : Rule) (first second : Option ℕ) (e : Entail) (res : Result ℕ Memory) → Some r ≡ rule_of part → e ≡ conclusion part → IfOk res (λ n. Adds old new n (Step r first second e)) → RuleIsI64 r → EntailIsI64 e
-    → IfOk res (λ n. (preds : Preds) (lines : List Line) → Holds preds old lines → AreThere lines earlier → IsSound preds part → Cites lines (premises_of part) first second → Reaches preds lines new n (conclusion part))
-rule_if old new earlier part r first second e (Ok n) is same adds ri ei = λ preds lines h there sound cites. reaches_rule preds old new lines part r first second n e (sym is) same adds ri ei h sound cites
-rule_if old new earlier part r first second e (Err x) is same adds ri ei = tt
+-- a line more, which may be recalled from here on
+pub recalls_rule : (old new : Written) (part : Tree) (r : Rule) (first second : Option ℕ) (places : List (Option Earlier)) (at n : ℕ) (k : Earlier) (e : Entail) → Some r ≡ rule_of part → e ≡ conclusion part → Adds old new n (Step r first second e) → RuleIsI64 r → EntailIsI64 e → k.entail.now ≡ e → k.number ≡ n
+    → (preds : Preds) (lines : List Line) → Holds preds old lines → AreRecalled lines places → IsSound preds part → Cites lines (premises_of part) first second → Recalls preds lines new n (conclusion part) (slice_set places at (Some k))
+recalls_rule old new part r first second places at n k e is same adds ri ei entail number preds lines h recalled sound cites =
+    let reached : Reaches preds lines new n (conclusion part) = reaches_rule preds old new lines part r first second n e (sym is) same adds ri ei h sound cites in
+    let said : proof_line (steps reached.grows.lines) k.number ≡ Some k.entail.now = ap (λ m. proof_line (steps reached.grows.lines) m) number ∙ reached.there ∙ ap (λ x. Some x) (sym (entail ∙ same)) in
+    record {
+      grows = reached.grows;
+      there = reached.there;
+      recalled = recalled_set reached.grows.lines places at k (recalled_kept preds lines new reached.grows places recalled) said;
+    }
 
 -- ---- earlier proofs
 

@@ -64,9 +64,28 @@ Stand lines [] (n ∷ ns) = ⊥
 Stand lines (t ∷ ts) [] = ⊥
 Stand lines (t ∷ ts) (n ∷ ns) = (proof_line (steps lines) n ≡ Some (conclusion t)) × Stand lines ts ns
 
-pub record Places (preds : Preds) (base : List Line) (w : Written) (ts : List Tree) (numbers : List ℕ) : Type 0 where
+-- lines that may be recalled: where a place has one, it is the proof line of its number
+abbrev pub AreRecalled : List Line → List (Option Earlier) → Type 0
+AreRecalled lines places = AllByRecursion (λ o. MatchOption o (Unit {0}) (λ k. proof_line (steps lines) k.number ≡ Some k.entail.now)) places
+
+-- one of them says e, and has this number
+pub record IsRecalled (places : List (Option Earlier)) (e : Entail) (number : ℕ) : Type 0 where
+  pub place : ℕ
+  pub item : Earlier
+  pub there : slice_get places place ≡ Some (Some item)
+  pub entail_is : item.entail.now ≡ e
+  pub number_is : item.number ≡ number
+
+-- e is the proof line of this number, and what may be recalled still stands
+pub record Recalls (preds : Preds) (base : List Line) (w : Written) (number : ℕ) (e : Entail) (places : List (Option Earlier)) : Type 0 where
+  pub grows : Grows preds base w
+  pub there : proof_line (steps grows.lines) number ≡ Some e
+  pub recalled : AreRecalled grows.lines places
+
+pub record Places (preds : Preds) (base : List Line) (w : Written) (ts : List Tree) (numbers : List ℕ) (places : List (Option Earlier)) : Type 0 where
   pub grows : Grows preds base w
   pub stand : Stand grows.lines ts numbers
+  pub recalled : AreRecalled grows.lines places
 
 -- citations of premises, the first one first
 abbrev pub Cites : List Line → List Tree → Option ℕ → Option ℕ → Type 0

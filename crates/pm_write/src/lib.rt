@@ -2,6 +2,7 @@
 #![tactic(auto)]
 
 mod lines;
+mod recalled;
 mod rules;
 mod table;
 mod texts;

@@ -1,6 +1,6 @@
 //! Whole proofs as lines, and lists of them as derivations.
 
-ghost use Rattle.std.specs.Prelude.{◌≡◌, ◌++◌, ◌∷◌, [], List, map, reverse, IfOk, OnOk};
+ghost use Rattle.std.specs.Prelude.{◌≡◌, ◌<◌, ◌++◌, ◌∷◌, [], List, length, map, reverse, IfOk, OnOk};
 ghost use Rattle.pm_logic.specs.declared.formula.Preds.{Preds};
 ghost use Rattle.pm_dtext.specs.declared.line.Line.{Line};
 ghost use Rattle.pm_dtext.specs.Texts.{arities_of};
@@ -9,9 +9,10 @@ ghost use Rattle.pm_proof.specs.Parts.{premises_of};
 ghost use Rattle.pm_proof.specs.Valid.{Valid, Fits};
 ghost use Rattle.pm_check.specs.Table.{BeginsTable};
 ghost use Rattle.pm_check.specs.Derivation.{IsDerivation};
-ghost use Rattle.pm_write.specs.Writing.{Keeps, Holds, Reaches, Places, Stand, AreThere, IsSound};
+ghost use Rattle.pm_write.specs.Writing.{Keeps, Holds, Reaches, Places, Stand, AreThere, AreRecalled, IsSound};
 ghost use Rattle.pm_write.specs.Derived.{States, AreWritable, statement_of};
 
+use crate::recalled::places;
 use crate::table::put_table;
 use crate::written::{Earlier, Written, take_citations};
 use pm_logic::{Bytes, List, Memory, Name, Preds};
@@ -28,17 +29,20 @@ pub struct Named {
 impl Written {
     /// Adds the line of a part, for which the numbers of its premises' lines are taken from the end of `built`, the first
     /// one's last, and adds its number there.
-    fn part(
+    fn part<'a>(
         &mut self,
         alloc: Global,
         earlier: &[Earlier],
-        part: &Branch,
+        part: &Branch<'a>,
         built: &mut Vec<u64>,
+        recalled: &mut [Option<Earlier<'a>>],
     ) -> Result<(), Memory>
-        ensures { OnOk result ((preds : Preds) (lines : List Line) (rest : List Tree) → Holds preds self.old lines → AreThere lines earlier.now → IsSound preds part.now → Stand lines (premises_of part.now ++ rest) (reverse built.old.items) → Places preds lines self.new (part.now ∷ rest) (reverse built.new.items)) }
+        requires { 0 < length recalled.old }
+        ensures length { length recalled.new ≡ length recalled.old }
+        ensures lines { OnOk result ((preds : Preds) (lines : List Line) (rest : List Tree) → Holds preds self.old lines → AreThere lines earlier.now → AreRecalled lines recalled.old → IsSound preds part.now → Stand lines (premises_of part.now ++ rest) (reverse built.old.items) → Places preds lines self.new (part.now ∷ rest) (reverse built.new.items) recalled.new) }
     {
         let cited = take_citations(part, built);
-        let number = self.place(alloc, earlier, part, cited)?;
+        let number = self.place(alloc, earlier, part, cited, recalled)?;
         built.push(number)?;
         Ok(())
     }
@@ -49,8 +53,9 @@ impl Written {
     {
         let mut parts = in_order(alloc, proof)?;
         let mut built = Vec::new(alloc);
+        let mut recalled = places(alloc, parts.len())?;
         while let Some(part) = parts.pop() {
-            self.part(alloc, earlier, &part, &mut built)?;
+            self.part(alloc, earlier, &part, &mut built, &mut recalled)?;
         }
         // One is left, the whole proof's.
         match built.pop() {
@@ -75,9 +80,10 @@ impl Written {
 }
 
 /// A derivation with this table that states what the proofs prove, under their names and in order. Its lines are those of
-/// one proof behind those of the other; of each proof a line stands behind those of its premises. For a hole the line is
-/// cited that an earlier proof of the list ends with, the first one that concludes the same. It takes a loop, so that a proof of
-/// a million levels needs no deep stack.
+/// one proof behind those of the other; of each proof a line stands behind those of its premises. Where a line would say
+/// what a line of the same proof says already, that one is mostly cited in its stead. For a hole the line is cited that an
+/// earlier proof of the list ends with, the first one that concludes the same. It takes a loop, so that a proof of a million
+/// levels needs no deep stack.
 ///
 /// The predicates begin a table. The proofs have names that differ; each is valid under the table, fits lines, and leads from
 /// truth, with no variables; each of its holes is the conclusion of an earlier one.

@@ -1,15 +1,16 @@
 //! Lines that are being written, each behind those that it cites.
 
-ghost use Rattle.std.specs.Prelude.{◌≡◌, ◌↔◌, [], ◌++◌, List, reverse, IsTrue, IfOk, OnOk, IfSome};
+ghost use Rattle.std.specs.Prelude.{◌≡◌, ◌↔◌, ◌<◌, [], ◌++◌, List, Some, length, reverse, IsTrue, IfOk, OnOk, IfSome};
 ghost use Rattle.pm_logic.specs.declared.formula.Preds.{Preds};
 ghost use Rattle.pm_logic.specs.Integers.{TermsAreI64};
 ghost use Rattle.pm_dtext.specs.declared.line.Line.{Line};
 ghost use Rattle.pm_dtext.specs.declared.line.Line.TheVariants.{Step};
-ghost use Rattle.pm_proof.specs.Trees.{Tree, conclusion};
+ghost use Rattle.pm_proof.specs.Trees.{Tree, conclusion, rule_of};
 ghost use Rattle.pm_proof.specs.Parts.{premises_of};
-ghost use Rattle.pm_write.specs.Writing.{Keeps, Holds, Adds, Closes, Reaches, Stand, Cites, AreThere, IsConcluded, IsSound, RuleIsI64, EntailIsI64};
+ghost use Rattle.pm_write.specs.Writing.{Keeps, Holds, Adds, Closes, Recalls, Stand, Cites, AreThere, AreRecalled, IsConcluded, IsSound, RuleIsI64, EntailIsI64};
 
 use crate::lines::{put_qed, put_step};
+use crate::recalled::{number_at, place_of};
 use pm_logic::{Bytes, Memory, Name, Term, formula_is_i64, same, term_is_i64};
 use pm_proof::Branch;
 use pm_rules::{Entail, Rule};
@@ -39,7 +40,7 @@ pub struct Written {
 }
 
 /// Whether both are the same entailment.
-fn same_entail(a: &Entail, b: &Entail) -> bool
+pub fn same_entail(a: &Entail, b: &Entail) -> bool
     ensures { IsTrue result ↔ (a.now ≡ b.now) }
 {
     a.vars == b.vars && same(&a.left, &b.left) && same(&a.right, &b.right)
@@ -167,16 +168,42 @@ impl Written {
         self.step(alloc, rule, cited, e)
     }
 
-    /// The number of the line that a part ends with, which is added where it has a rule, and is the one of an earlier proof
-    /// where it is a hole.
-    pub fn place(
+    /// The number of the line that a part with a rule ends with: one that is recalled, or else a line more.
+    fn line<'a>(
+        &mut self,
+        alloc: Global,
+        part: &Branch<'a>,
+        rule: &Rule,
+        cited: Citations,
+        recalled: &mut [Option<Earlier<'a>>],
+    ) -> Result<u64, Memory>
+        requires rule { Some rule.now ≡ rule_of part.now }
+        requires places { 0 < length recalled.old }
+        ensures length { length recalled.new ≡ length recalled.old }
+        ensures line { IfOk result (λ n. (preds : Preds) (lines : List Line) → Holds preds self.old lines → AreRecalled lines recalled.old → IsSound preds part.now → Cites lines (premises_of part.now) cited.first cited.second → Recalls preds lines self.new n (conclusion part.now) recalled.new) }
+    {
+        let entail = part.entail();
+        let at = place_of(entail, recalled.len());
+        if let Some(number) = number_at(recalled, at, entail) {
+            return Ok(number);
+        }
+        let number = self.rule(alloc, rule, cited, entail)?;
+        recalled[at] = Some(Earlier { entail, number });
+        Ok(number)
+    }
+
+    /// The number of the line that a part ends with. Where it is a hole, that is the line of an earlier proof.
+    pub fn place<'a>(
         &mut self,
         alloc: Global,
         earlier: &[Earlier],
-        part: &Branch,
+        part: &Branch<'a>,
         cited: Citations,
+        recalled: &mut [Option<Earlier<'a>>],
     ) -> Result<u64, Memory>
-        ensures { IfOk result (λ n. (preds : Preds) (lines : List Line) → Holds preds self.old lines → AreThere lines earlier.now → IsSound preds part.now → Cites lines (premises_of part.now) cited.first cited.second → Reaches preds lines self.new n (conclusion part.now)) }
+        requires { 0 < length recalled.old }
+        ensures length { length recalled.new ≡ length recalled.old }
+        ensures line { IfOk result (λ n. (preds : Preds) (lines : List Line) → Holds preds self.old lines → AreThere lines earlier.now → AreRecalled lines recalled.old → IsSound preds part.now → Cites lines (premises_of part.now) cited.first cited.second → Recalls preds lines self.new n (conclusion part.now) recalled.new) }
     {
         match part.rule() {
             // A hole that no earlier proof concludes is none that can be written.
@@ -184,7 +211,7 @@ impl Written {
                 Some(number) => Ok(number),
                 None => Err(Memory),
             },
-            Some(rule) => self.rule(alloc, rule, cited, part.entail()),
+            Some(rule) => self.line(alloc, part, rule, cited, recalled),
         }
     }
 }
