@@ -9,3 +9,13 @@ pub mod Renamed
 pub mod Reverted
 pub mod Listing
 pub mod Dealt
+pub mod Composed
+pub mod Replaced
+pub mod Changed
+pub mod Placed
+pub mod Fillings
+pub mod Mentioned
+pub mod Lost
+pub mod Regained
+pub mod Lessened
+pub mod Generals

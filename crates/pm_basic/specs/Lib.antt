@@ -4,3 +4,5 @@ pub mod Halves
 pub mod Renamings
 pub mod Fronts
 pub mod Deals
+pub mod Replacements
+pub mod Losses
