@@ -1,0 +1,9 @@
+pub mod Chained
+pub mod Begun
+pub mod Named
+pub mod Fronts
+pub mod Allowed
+pub mod Bare
+pub mod Variables
+pub mod Ended
+pub mod Reverted

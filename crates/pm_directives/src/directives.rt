@@ -1,0 +1,123 @@
+//! Directives, run on all works.
+
+ghost use Rattle.pm_table.specs.Basic.{on_goal, exists};
+ghost use Rattle.pm_table.specs.Running.{in_order, act_with};
+ghost use Rattle.pm_table.specs.Patterns as patterns;
+ghost use Rattle.pm_logic.specs.Size.{term_nodes};
+ghost use Rattle.pm_directives.specs.Built.{IsBuilt, IsBuiltPattern, is_built_term};
+ghost use Rattle.std.specs.Prelude.{IsTrue};
+ghost use Rattle.pm_sweep.specs.declared.act.Act.TheVariants as act;
+ghost use Rattle.pm_sweep.specs.Acts.{changing, handed_to_change};
+ghost use Rattle.pm_sweep.specs.Standing.{IsStanding, IsHandedToAll, Follows};
+ghost use Rattle.pm_directives.specs.Steps.{TakesApart, FollowsTable, TermsFitAll, DirectiveFits};
+
+use crate::introducing::{clear_all, intro_each, revert_all};
+use crate::patterns::destruct;
+use pm_goal::StepFault;
+use pm_logic::Term;
+use pm_patterns::{Head, Pat, ProofTerm};
+use pm_proof::Parts;
+use pm_script::Directive;
+use pm_sweep::{Act, Changing, Entering, Turn, sweep, with_turn_each};
+use pm_table::Place;
+use std::alloc::Global;
+
+/// The witnesses, in order.
+fn exists_each(
+    alloc: Global,
+    standing: Parts<Place>,
+    terms: &[Term],
+) -> Result<Parts<Place>, StepFault>
+    requires standing { IsStanding standing }
+    requires terms { TermsFitAll terms.now standing.goals }
+    ensures { Follows standing (in_order (λ t. act_with (term_nodes t) (on_goal (exists t))) terms.now standing.goals) result }
+{
+    match terms {
+        [] => Ok(standing),
+        [term, rest @ ..] => {
+            let act = Act::Change(Changing::Exists(term));
+            let next = sweep(alloc, standing, Turn::Every, act)?;
+            exists_each(alloc, next, rest)
+        }
+    }
+}
+
+/// The pattern, for what every work has in hand.
+fn destruct_all(alloc: Global, standing: Parts<Place>, pat: &Pat) -> Result<Parts<Place>, StepFault>
+    requires built { IsBuiltPattern pat.now }
+    requires standing { IsStanding standing }
+    ensures { Follows standing (patterns.destruct_all pat.now standing.goals) result }
+{
+    let Parts {
+        goals: places,
+        proof,
+    } = standing;
+    let goals = with_turn_each(alloc, places)?;
+    destruct(alloc, pat, Parts { goals, proof })
+}
+
+/// A bare hypothesis is taken, and the pattern destructs it.
+fn take_apart(
+    alloc: Global,
+    standing: Parts<Place>,
+    term: &ProofTerm,
+    pat: &Pat,
+) -> Result<Parts<Place>, StepFault>
+    requires term { IsTrue (is_built_term term.now) }
+    requires pattern { IsBuiltPattern pat.now }
+    requires standing { IsStanding standing }
+    ensures { TakesApart term.now pat.now standing result }
+{
+    match &term.head {
+        Head::Hyp(name) => {
+            let act = Act::Enter(Entering::Take(name));
+            let held = sweep(alloc, standing, Turn::Every, act)?;
+            destruct_all(alloc, held, pat)
+        }
+        Head::Lemma(_) => unreachable!(),
+    }
+}
+
+/// A directive that is one action on all works.
+fn changed(
+    alloc: Global,
+    standing: Parts<Place>,
+    change: Changing,
+) -> Result<Parts<Place>, StepFault>
+    requires standing { IsStanding standing }
+    requires handed { IsHandedToAll (act.Change change) standing.goals }
+    ensures { Follows standing (act_with (handed_to_change change.entry) (changing change.entry) standing.goals) result }
+{
+    sweep(alloc, standing, Turn::Every, Act::Change(change))
+}
+
+/// The directive, on all works.
+pub fn run(
+    alloc: Global,
+    standing: Parts<Place>,
+    directive: &Directive,
+) -> Result<Parts<Place>, StepFault>
+    requires built { IsBuilt directive.now }
+    requires standing { IsStanding standing }
+    requires handed { DirectiveFits directive.now standing.goals }
+    ensures { FollowsTable directive.now standing result }
+{
+    match directive {
+        Directive::Intros(pats) => intro_each(alloc, standing, pats.as_slice()),
+        Directive::Destruct(term, pat) => take_apart(alloc, standing, term, pat),
+        Directive::Split => changed(alloc, standing, Changing::Split),
+        Directive::SplitL(names) => changed(alloc, standing, Changing::SplitLeft(names.as_ref())),
+        Directive::SplitR(names) => changed(alloc, standing, Changing::SplitRight(names.as_ref())),
+        Directive::Left => changed(alloc, standing, Changing::Left),
+        Directive::Right => changed(alloc, standing, Changing::Right),
+        Directive::Exists(terms) => exists_each(alloc, standing, terms.as_slice()),
+        Directive::Exact(name) => changed(alloc, standing, Changing::Exact(name)),
+        Directive::Assumption => changed(alloc, standing, Changing::Assumption),
+        Directive::ExFalso => changed(alloc, standing, Changing::ExFalso),
+        Directive::Done => changed(alloc, standing, Changing::Done),
+        Directive::Clear(sels) => clear_all(alloc, standing, sels.as_slice()),
+        Directive::Rename(from, to) => changed(alloc, standing, Changing::Rename(from, to)),
+        Directive::Revert(_, sels) => revert_all(alloc, standing, sels.as_slice()),
+        _ => unreachable!(),
+    }
+}
