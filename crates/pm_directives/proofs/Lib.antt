@@ -6,4 +6,3 @@ pub mod Allowed
 pub mod Bare
 pub mod Variables
 pub mod Ended
-pub mod Reverted

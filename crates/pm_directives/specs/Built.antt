@@ -9,7 +9,6 @@ use Rattle.pm_patterns.specs.declared.pattern.Pat.TheVariants as pat
 use Rattle.pm_patterns.specs.Patterns.{Pair, Either, Int, Spat}
 use Rattle.pm_script.specs.declared.directive.Directive.{Directive}
 use Rattle.pm_script.specs.declared.directive.Directive.TheVariants as d
-use Rattle.pm_table.specs.Introductions.{is_empty}
 use Rattle.pm_table.specs.Directives.{is_bare}
 
 -- of what is in hand
@@ -57,7 +56,7 @@ is_built d.ExFalso = true
 is_built d.Done = true
 is_built (d.Clear sels) = true
 is_built (d.Rename h k) = true
-is_built (d.Revert xs sels) = is_empty xs
+is_built (d.Revert xs sels) = true
 is_built _ = false
 
 abbrev pub IsBuiltPattern : Pat → Type 0

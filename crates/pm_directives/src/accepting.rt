@@ -80,8 +80,7 @@ pub fn is_built(directive: &Directive) -> bool
         Directive::Left | Directive::Right | Directive::Exists(_) => true,
         Directive::Exact(_) | Directive::Assumption | Directive::ExFalso => true,
         Directive::Done | Directive::Clear(_) => true,
-        Directive::Rename(_, _) => true,
-        Directive::Revert(names, _) => names.len() == 0,
+        Directive::Rename(_, _) | Directive::Revert(_, _) => true,
         _ => false,
     }
 }

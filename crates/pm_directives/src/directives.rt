@@ -1,5 +1,6 @@
 //! Directives, run on all works.
 
+ghost use Rattle.pm_table.specs.Directives as table;
 ghost use Rattle.pm_table.specs.Basic.{on_goal, exists};
 ghost use Rattle.pm_table.specs.Running.{in_order, act_with};
 ghost use Rattle.pm_table.specs.Patterns as patterns;
@@ -11,11 +12,11 @@ ghost use Rattle.pm_sweep.specs.Acts.{changing, handed_to_change};
 ghost use Rattle.pm_sweep.specs.Standing.{IsStanding, IsHandedToAll, Follows};
 ghost use Rattle.pm_directives.specs.Steps.{TakesApart, FollowsTable, TermsFitAll, DirectiveFits};
 
-use crate::introducing::{clear_all, intro_each, revert_all};
+use crate::introducing::{clear_all, intro_each, revert_all, revert_vars};
 use crate::patterns::destruct;
 use pm_goal::StepFault;
-use pm_logic::Term;
-use pm_patterns::{Head, Pat, ProofTerm};
+use pm_logic::{Name, Term};
+use pm_patterns::{Head, Pat, ProofTerm, Sel};
 use pm_proof::Parts;
 use pm_script::Directive;
 use pm_sweep::{Act, Changing, Entering, Turn, sweep, with_turn_each};
@@ -78,6 +79,20 @@ fn take_apart(
     }
 }
 
+/// What is selected is reverted, then the variables.
+fn revert(
+    alloc: Global,
+    standing: Parts<Place>,
+    names: &[Name],
+    sels: &[Sel],
+) -> Result<Parts<Place>, StepFault>
+    requires { IsStanding standing }
+    ensures { Follows standing (table.revert_all names.now sels.now standing.goals) result }
+{
+    let next = revert_all(alloc, standing, sels)?;
+    revert_vars(alloc, next, names)
+}
+
 /// A directive that is one action on all works.
 fn changed(
     alloc: Global,
@@ -117,7 +132,9 @@ pub fn run(
         Directive::Done => changed(alloc, standing, Changing::Done),
         Directive::Clear(sels) => clear_all(alloc, standing, sels.as_slice()),
         Directive::Rename(from, to) => changed(alloc, standing, Changing::Rename(from, to)),
-        Directive::Revert(_, sels) => revert_all(alloc, standing, sels.as_slice()),
+        Directive::Revert(names, sels) => {
+            revert(alloc, standing, names.as_slice(), sels.as_slice())
+        }
         _ => unreachable!(),
     }
 }

@@ -1,7 +1,8 @@
 //! Introductions, selections and reverting, on all works.
 
 ghost use Rattle.std.specs.Prelude.{reverse, IsTrue};
-ghost use Rattle.pm_table.specs.Running.{in_order};
+ghost use Rattle.pm_table.specs.Running.{in_order, act as act_all};
+ghost use Rattle.pm_table.specs.Basic.{on_goal, revert_var};
 ghost use Rattle.pm_table.specs.Patterns as table;
 ghost use Rattle.pm_table.specs.Directives.{revert_selected};
 ghost use Rattle.pm_directives.specs.Built.{IsBuiltPattern, is_built_intro, AreBuiltIntros};
@@ -10,6 +11,7 @@ ghost use Rattle.pm_sweep.specs.Standing.{IsStanding, Follows};
 use crate::groups::{Alone, Group, each_alone};
 use crate::patterns::destruct;
 use pm_goal::StepFault;
+use pm_logic::Name;
 use pm_patterns::{Pat, Sel};
 use pm_proof::Parts;
 use pm_sweep::{Act, Changing, Entering, Turn, sweep};
@@ -88,6 +90,25 @@ pub fn revert_all(
         [rest @ .., sel] => {
             let next = revert_selected(alloc, standing, sel)?;
             revert_all(alloc, next, rest)
+        }
+    }
+}
+
+/// The variables are reverted, last first.
+pub fn revert_vars(
+    alloc: Global,
+    standing: Parts<Place>,
+    names: &[Name],
+) -> Result<Parts<Place>, StepFault>
+    requires { IsStanding standing }
+    ensures { Follows standing (in_order (λ x. act_all (on_goal (revert_var x))) (reverse names.now) standing.goals) result }
+{
+    match names {
+        [] => Ok(standing),
+        [rest @ .., name] => {
+            let act = Act::Change(Changing::RevertVar(name));
+            let next = sweep(alloc, standing, Turn::Every, act)?;
+            revert_vars(alloc, next, rest)
         }
     }
 }

@@ -1,7 +1,9 @@
 -- What each action keeps: the limits are tested after it, names that differ still differ, and what is scoped stays so.
-use Rattle.std.proofs.Common.{◌≡◌, true, false, List, [], ◌∷◌, refl, Option, Some, None}
+use Rattle.std.proofs.Common.{◌≡◌, ℕ, suc, ◌≤◌, Bool, true, false, cond, not, List, [], ◌∷◌, sym, subst, refl, arith, Option, Some, None, bytes_eq, le_refl}
 use Rattle.std.specs.Option.{option_copied}
 use Rattle.pm_logic.specs.declared.formula.Preds.{Preds}
+use Rattle.pm_logic.specs.Substitution.{in_pure, in_formula}
+use Rattle.pm_goal.specs.declared.goal.Goal.{Goal}
 use Rattle.pm_goal.specs.declared.work.Held.{Held}
 use Rattle.pm_goal.specs.declared.work.Lemmas.{Lemmas}
 use Rattle.pm_goal.specs.declared.work.Work.{Work}
@@ -9,15 +11,19 @@ use Rattle.pm_goal.specs.declared.refusal.Row.{Row}
 use Rattle.pm_table.specs.declared.place.Place.{Place}
 use Rattle.pm_table.specs.Outcomes.{Outcome, gives, refused, Action, one}
 use Rattle.pm_table.specs.Limits.{limit_row, work_at, kept_or, within_limits, all_within, limited}
-use Rattle.pm_table.specs.Works.{where_none}
+use Rattle.pm_table.specs.Works.{Named, index_named, where_none}
 use Rattle.pm_table.specs.Destructs as table
+use Rattle.pm_table.specs.Basic as basic
+use Rattle.pm_table.specs.Basic.{mentions, names_but, without_var}
+use Rattle.pm_table.specs.Occurrences.{without}
 use Rattle.pm_table.specs.Patterns.{opening}
 use Rattle.pm_table.specs.Introductions.{intro_all_fresh}
 use Rattle.pm_table.specs.Works.{fresh_name}
 use Rattle.pm_table.specs.Scopes.{IsWorkScoped}
-use Rattle.pm_table.specs.Stepping.{NamesDiffer}
+use Rattle.pm_table.specs.Stepping.{NamesDiffer, times}
 use Rattle.pm_table.proofs.Keeping.{Everywhere, InOutcome, Good, rest_good}
-use Rattle.pm_table.proofs.Outcomes.{joined_in, limited_in, opening_in}
+use Rattle.pm_table.proofs.Outcomes.{joined_in, limited_in, good, opening_in, require_some_in, require_plain_in}
+use Rattle.pm_table.proofs.Counting.{fact_names, hyp_names, Fewer, fewer_from, each_hyp_names, each_fact_names, fewer_names, differ_still}
 use Rattle.pm_table.proofs.Apart.{actions}
 use Rattle.pm_table.proofs.ScopedActions as scoped
 use Rattle.pm_sweep.specs.declared.act.Entering.{Entering}
@@ -52,6 +58,30 @@ limited_within (refused r) = tt
 
 abbrev Apart : Work → Type 0
 Apart w = NamesDiffer w.goal
+
+times_of_choice : (y : Named) (t : Bool) (xs : List Named) (z : Named) (zs : List Named) → times y (cond t xs (z ∷ zs)) ≡ cond t (times y xs) (cond (bytes_eq y z) (suc (times y zs)) (times y zs))
+times_of_choice y true xs z zs = refl
+times_of_choice y false xs z zs = refl
+
+one_fewer : (t b : Bool) (n m : ℕ) → m ≤ n → cond t n (cond b (suc m) m) ≤ cond b (suc n) n
+one_fewer true true n m le = omega arith
+one_fewer true false n m le = le_refl n
+one_fewer false true n m le = omega (arith, le)
+one_fewer false false n m le = le
+
+but_fewer : (x : Named) (xs : List Named) → Fewer (names_but x xs) xs
+but_fewer x [] y = le_refl 0
+but_fewer x (z ∷ xs) y =
+    subst (λ n. n ≤ cond (bytes_eq y z) (suc (times y xs)) (times y xs)) (sym (times_of_choice y (bytes_eq x z) xs z (names_but x xs)))
+    (one_fewer (bytes_eq x z) (bytes_eq y z) (times y xs) (times y (names_but x xs)) (but_fewer x xs y))
+
+without_var_apart : (x : Named) (i : ℕ) (g : Goal) → NamesDiffer g → NamesDiffer (without_var x i g)
+without_var_apart x i g h =
+    let a : Goal = without_var x i g in
+    differ_still a g (fewer_names a g (but_fewer x g.vars) (fewer_from (fact_names a.pures) (fact_names g.pures) (each_fact_names (in_pure (without i)) g.pures)) (fewer_from (hyp_names a.ints) (hyp_names g.ints) (each_hyp_names (in_formula (without i)) g.ints)) (fewer_from (hyp_names a.spats) (hyp_names g.spats) (each_hyp_names (in_formula (without i)) g.spats))) h
+
+revert_var_apart : (x : Named) (w : Work) → Apart w → InOutcome Apart (basic.revert_var x w.goal)
+revert_var_apart x w h = require_some_in Apart (index_named x w.goal.vars) _ _ _ (λ i e. require_plain_in Apart (not (mentions i w.goal)) _ _ (λ f. (without_var_apart x i w.goal h, tt)))
 
 -- ---- each action
 
@@ -93,6 +123,8 @@ module _ (preds : Preds) where
   changing_apart (change.Clear h) = (actions preds no_lemmas).clear h.now
   changing_apart (change.Rename h k) = (actions preds no_lemmas).rename h.now k.now
   changing_apart (change.Revert h) = (actions preds no_lemmas).revert h.now
+  changing_apart (change.RevertVar x) =
+      rest_good Apart (λ v. basic.revert_var x.now v.goal) (good Apart (λ v. basic.revert_var x.now v.goal) (revert_var_apart x.now)) (actions preds no_lemmas).stay
 
   act_apart : (a : Act) → Good Apart (action_of a)
   act_apart (act.Enter a) = rest_good Apart (entering a) (entering_apart a) (actions preds no_lemmas).stay
@@ -141,6 +173,7 @@ module _ (preds : Preds) where
   changing_scoped (change.Clear x) w i h = (scoped.clear preds x.now w h).1
   changing_scoped (change.Rename x y) w i h = (scoped.rename preds x.now y.now w h).1
   changing_scoped (change.Revert x) w i h = (scoped.revert preds x.now w h).1
+  changing_scoped (change.RevertVar x) w i h = (scoped.revert_var preds x.now w h).1
 
   -- where something is in hand, the work stays
   rest_scoped : (hs : List Held) (o q : Outcome) → InOutcome InScope (limited o) → InOutcome InScope (limited q) → InOutcome InScope (limited (where_none hs o q))

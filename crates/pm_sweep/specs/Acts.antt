@@ -63,6 +63,7 @@ changing change.TryDone = on_goal basic.try_done
 changing (change.Clear h) = on_goal (basic.clear h.now)
 changing (change.Rename h k) = on_goal (basic.rename h.now k.now)
 changing (change.Revert h) = on_goal (basic.revert h.now)
+changing (change.RevertVar x) = on_goal (basic.revert_var x.now)
 
 abbrev pub action_of : Act → Action
 action_of (act.Enter a) = at_rest (entering a)

@@ -47,6 +47,7 @@ pub enum Changing<'a> {
     Clear(&'a Name),
     Rename(&'a Name, &'a Name),
     Revert(&'a Name),
+    RevertVar(&'a Name),
 }
 
 /// An action on one work, with what is handed to it. To add an action, add it to its kind, to the function that performs that

@@ -13,7 +13,7 @@ ghost use Rattle.pm_sweep.specs.Standing.{AnswersOpened, IsHandedTo, IsHandedToC
 use crate::act::{Act, Changing, Entering, Handling};
 use crate::lists::with_turns;
 use pm_action::{fresh_name, unmoved};
-use pm_basic::{clear, exfalso, exists, rename, revert, side, split, split_at};
+use pm_basic::{clear, exfalso, exists, rename, revert, revert_var, side, split, split_at};
 use pm_closing::{assumption, done, exact, try_done};
 use pm_goal::{StepFault, Work, copy_work};
 use pm_hand::{
@@ -175,6 +175,7 @@ fn change(alloc: Global, work: &Work, act: Changing) -> Result<Parts<Place>, Ste
         Changing::Clear(name) => clear(alloc, work, name),
         Changing::Rename(old, new) => rename(alloc, work, old, new),
         Changing::Revert(name) => revert(alloc, work, name),
+        Changing::RevertVar(name) => revert_var(alloc, work, name),
     }
 }
 
