@@ -9,9 +9,10 @@ What is tried is told by plain Markdown:
 
     ```mosel          A script. `run` ends with status 0, and `check` accepts the derivation that it wrote.
     ```derivation     A derivation. `check` accepts it.
-    ```answer N       What is answered to the script or derivation above it: the status N, and the text. Above status 0 the
-                      text is what `check` writes, for a script of the derivation that `run` wrote: which derivation that is,
-                      nothing defines. Status 3 is answered to no words, and has nothing above it.
+    ```goals          A script. `goals` ends with status 0.
+    ```answer N       What is answered to what stands above it: the status N, and the text. For a script with status 0 the text
+                      is what `check` writes of the derivation that `run` wrote: which derivation that is, nothing defines.
+                      Status 3 is answered to no words, and has nothing above it.
     ```same T         Lines `A  is  B`, where T is `terms` or `formulas`: two spellings of one tree. The capitals P, Q, R, S
                       stand for calls of predicates, the letters x, y for variables.
     | Script | Answer |, | Derivation | Answer |
@@ -19,7 +20,12 @@ What is tried is told by plain Markdown:
                       the line that is answered. Of a script the pieces of code are put together, one with a number
                       before it so many times. Of a derivation each piece is a line; where the first isn't a header, they
                       stand behind `mosel-derivation 1` and `arities`; "without its line feed" drops the last one; a
-                      cell without code is the empty input.
+                      cell without code is the empty input. A script in a column `Mended` is accepted.
+    | Goal | Sentence | After |
+                      A table of these columns: behind the sentence the goal has become the goals of the last column, which
+                      `;` separates; no code is no goals. Pieces of code are the printed lines of a goal, `□` and `⊢` the
+                      lines between contexts. The capitals P, Q, R, S stand for calls of predicates. The script that leads
+                      to the goal is made from it.
     | File | Lines |  A table whose first two columns these are: each file has so many lines.
     | Limit | Value |  A table whose first two columns these are: pm_logic's limits.rt has these constants.
 
@@ -40,8 +46,10 @@ TOP = os.path.dirname(os.path.dirname(os.path.abspath(__file__)))
 PROGRAM = os.path.join(TOP, "crates", "mosel", "out", "mosel")
 SECONDS = 60
 STATUSES = {b"refused": 1, b"unreadable": 2, b"usage": 3, b"too": 7}
-COMMANDS = {"mosel": "run", "derivation": "check"}
+COMMANDS = {"mosel": "run", "derivation": "check", "goals": "goals"}
 HEADER = ["mosel-derivation 1", "arities"]
+RULERS = {"□": "-" * 20 + "□", "⊢": "-" * 20 + "∗"}
+PREDICATES = "".join(f"Predicate {it}() := True.\n" for it in "PQRS")
 PATH = re.compile(r"(?:\./)?(?:crates|docs|bench|examples|\.ci)/[\w./-]*\w|(?:\./)?(?:README\.md|crates\.txt|mosel)")
 
 
@@ -103,16 +111,53 @@ def derivation_of(cell):
     return (text[:-1] if "without its line feed" in cell else text).encode()
 
 
+def called(text):
+    """The text, its capitals P, Q, R, S being calls."""
+    return re.sub(r"\b([PQRS])\b", r"\1()", text)
+
+
+def goals_of(cell):
+    """The goals of a cell, each as its printed lines."""
+    goals = [[]]
+    for code, sign in re.findall(r"`([^`]*)`|([□⊢;])", cell.replace("\\|", "|")):
+        if sign == ";":
+            goals.append([])
+        else:
+            goals[-1].append(RULERS[sign] if sign else called(code))
+    return [it for it in goals if it]
+
+
+def printed(goals):
+    """What `goals` writes."""
+    numbered = [[f"goal {k}:", *lines] for k, lines in enumerate(goals, 1)]
+    return "".join(f"{line}\n" for lines in [[f"goals: {len(goals)}"], *numbered] for line in lines).encode()
+
+
+def script_to(goal):
+    """A script that leads to the goal: what stands before its conclusion is introduced."""
+    variables, sides, patterns = "", "", []
+    for at, line in enumerate(goal[:-1]):
+        name, _, formula = line.partition(" : ")
+        if formula == "Z":
+            variables += f" {name}"
+        elif line not in RULERS.values():
+            is_fact, is_boxed = name[0] != '"', RULERS["□"] in goal[at:]
+            sides += f"⌜{formula}⌝ -∗ " if is_fact else f"□ ({formula}) -∗ " if is_boxed else f"({formula}) -∗ "
+            patterns.append(f"%{name}" if is_fact else ("#" if is_boxed else "") + name.strip('"'))
+    binder, names = (f"∀{variables}, ", f" ({variables})") if variables else ("", "")
+    quoted = f' "{" ".join(patterns)}"' if patterns else ""
+    intro = f"iIntros{names}{quoted}.\n" if names or quoted else ""
+    return f"{PREDICATES}Lemma shown : {binder}{sides}({goal[-1]}).\n{intro}"
+
+
 def same_script(kind, line):
     """A script that is accepted exactly where the line's two spellings are of one tree."""
     spelled = re.split(r"\s+is\s+", line.strip())
     if kind == "terms":
         sides = [f"∀ x y, ⌜{it} = 0⌝" for it in spelled]
     else:
-        called = [re.sub(r"\b([PQRS])\b", r"\1()", it) for it in spelled]
-        sides = [f"∀ x y, ({it})" if re.search(r"\b[xy]\b", it) else it for it in called]
-    table = "".join(f"Predicate {it}() := True.\n" for it in "PQRS")
-    return f'{table}Lemma same : ({sides[0]}) → ({sides[1]}).\niIntros "H". iExact "H". Qed.\n'.encode()
+        sides = [f"∀ x y, ({it})" if re.search(r"\b[xy]\b", it) else it for it in map(called, spelled)]
+    return f'{PREDICATES}Lemma same : ({sides[0]}) → ({sides[1]}).\niIntros "H". iExact "H". Qed.\n'.encode()
 
 
 def cells_of(line):
@@ -141,6 +186,12 @@ def try_tables(tries, name, lines):
         if head[:2] == ["Limit", "Value"]:
             constant = codes(row["Limit"])[0][1]
             tries.expect(place, LIMITS.get(constant) == row["Value"].replace(",", ""), f"{constant} is {LIMITS.get(constant)}")
+        if head == ["Goal", "Sentence", "After"]:
+            goals = goals_of(row["Goal"])
+            for sentence, left in (("", goals), (codes(row["Sentence"])[0][1], goals_of(row["After"]))):
+                tries.case(place, "goals", (script_to(goals[0]) + sentence).encode(), 0, printed(left))
+        if "Mended" in row:
+            tries.case(place, "run", script_of(row["Mended"]))
         for word, command, given in (("Script", "run", script_of), ("Derivation", "check", derivation_of)):
             if head[:2] == [word, "Answer"]:
                 text = (codes(row["Answer"])[0][1] + "\n").encode()

@@ -1,56 +1,61 @@
 -- What sentences do to what a running script keeps.
-use Rattle.std.proofs.Common.{◌≡◌, ◌⊎◌, inl, inr, ℕ, suc, ◌+◌, ◌-◌, ◌^◌, ◌<◌, ◌≤◌, min, Bool, true, false, not, ◌||◌, List, [], ◌∷◌, ◌++◌, length, length-append, map, reverse, take, drop, refl, sym, ◌∙◌, ap, ap₂, subst, arith, Option, Some, None, Result, Ok, Err}
-use Rattle.std.proofs.Math.Seq.{drop-length}
-use Rattle.std.proofs.lemmas.List.{append-nil, length-map, length-reverse, map-append, take_all}
+use Rattle.std.proofs.Common.{◌≡◌, ◌⊎◌, inl, inr, ℕ, ◌+◌, ◌≤◌, min, Bool, true, false, not, ◌||◌, List, [], ◌∷◌, ◌++◌, length, map, reverse, refl, sym, ◌∙◌, ap, ap₂, subst, arith, Option, Some, None, Result, Ok, Err}
+use Rattle.std.proofs.lemmas.List.{length-reverse}
 use Rattle.std.proofs.lemmas.Bool.Decides.{Decides-eqb}
-use Rattle.std.specs.Prelude.{IsTrue, IfOk, is_some, ◌==◌}
+use Rattle.std.specs.Prelude.{IsTrue, IfOk, is_some, ◌==◌, if◌then◌else◌, option_map}
 use Rattle.std.specs.List.{AllByRecursion}
 use Rattle.std.specs.Str.{bytes_eq}
-use Rattle.pm_logic.specs.declared.limits.TheConstants.{MAX_LEMMAS, MAX_LEVELS, MAX_LINE_LEVELS, MAX_LINE_VARIABLES, MAX_VARIABLES}
+use Rattle.pm_logic.specs.declared.limits.TheConstants.{MAX_LINE_LEVELS, MAX_LINE_VARIABLES, MAX_VARIABLES}
 use Rattle.pm_logic.specs.declared.formula.Formula.{Formula}
 use Rattle.pm_logic.specs.declared.formula.Pred.{Pred}
 use Rattle.pm_logic.specs.declared.formula.Preds.{Preds}
-use Rattle.pm_logic.specs.Size.{depth_of}
 use Rattle.pm_names.specs.Names.{is_name}
-use Rattle.pm_dtext.specs.Ranges.{InRange}
-use Rattle.pm_dtext.specs.Texts.{arities_of}
 use Rattle.pm_rules.specs.declared.rules.Entail.{Entail}
 use Rattle.pm_check.specs.declared.checked.Statement.{Statement}
 use Rattle.pm_check.specs.Fronts.{EachBehind}
 use Rattle.pm_check.specs.Lines.{is_used as is_stated}
 use Rattle.pm_name_sets.specs.Sets.{has, Adds}
 use Rattle.pm_goal.specs.declared.goal.Goal.{Goal}
+use Rattle.pm_goal.specs.declared.work.Lemma.{Lemma}
+use Rattle.pm_goal.specs.declared.work.Lemmas.{Lemmas}
 use Rattle.pm_goal.specs.Left.{star_onto}
 use Rattle.pm_proof.specs.declared.joining.Step.{Step as ProofStep}
-use Rattle.pm_proof.specs.Trees.{Tree, Hole, Axiom, First, Second, Both, conclusion, holes_of, hole_count, depth, variables}
-use Rattle.pm_proof.specs.Valid.{Valid, EntailScoped, IsScoped}
+use Rattle.pm_proof.specs.declared.proof.Parts.{Parts}
+use Rattle.pm_proof.specs.Trees.{Tree, conclusion, holes_of, depth, variables}
+use Rattle.pm_proof.specs.Valid.{Valid, IsScoped}
 use Rattle.pm_proof.specs.Known.{Tables, IsAmong}
-use Rattle.pm_proof.specs.Joins.{goals_of, lemmas_of, Leads, IsComplete, used, Joins}
+use Rattle.pm_proof.specs.Joins.{lemmas_of, Leads, IsComplete, used, Joins}
 use Rattle.pm_proof.proofs.Scoping.{scoped_fits}
-use Rattle.pm_proof.proofs.Joins.{leads_more, all_used}
-use Rattle.pm_star.proofs.Scoping.{truth_scoped}
+use Rattle.pm_proof.proofs.Joins.{all_used}
 use Rattle.pm_write.specs.declared.writing.Named.{Named}
 use Rattle.pm_write.specs.Derived.{statement_of, names_of as written_names, conclusions, IsOneOf, IsWritable, AreWritable}
 use Rattle.pm_script.specs.declared.sentence.Sentence.{Sentence}
 use Rattle.pm_script.specs.declared.sentence.Sentence.TheVariants as sentence
-use Rattle.pm_script.specs.declared.sentence.Stated.TheVariants as stated
+use Rattle.pm_script.specs.declared.sentence.Stated.TheVariants as stating
 use Rattle.pm_script.specs.Stating.{stated_of}
 use Rattle.pm_script.specs.declared.directive.Directive.{Directive}
 use Rattle.pm_goal.specs.declared.refusal.Row.{Row}
-use Rattle.pm_goal.specs.declared.refusal.Row.TheVariants.{GoalsRemain}
+use Rattle.pm_goal.specs.declared.refusal.Row.TheVariants.{GoalsRemain, NoOpenProof}
+use Rattle.pm_goal.specs.declared.refusal.Refusal.{Refusal}
+use Rattle.pm_goal.specs.declared.refusal.StepFault.{StepFault}
+use Rattle.pm_goal.specs.declared.refusal.StepFault.TheVariants as fault
+use Rattle.pm_table.specs.Directives.{Stepped, step, step_rules}
+use Rattle.pm_table.specs.Directives as steps
+use Rattle.pm_directives.specs.Built.{is_built}
+use Rattle.pm_directives.specs.Steps.{StepAnswers}
 use Rattle.pm_run.specs.declared.proof.Proof.{Proof}
 use Rattle.pm_run.specs.declared.running.Running.{Running}
 use Rattle.pm_run.specs.declared.running.Done.{Done}
 use Rattle.pm_run.specs.declared.running.Done.TheVariants as done
 use Rattle.pm_goal.specs.Refusals.{refusal}
 use Rattle.pm_run.specs.Rows.{Table}
-use Rattle.pm_run.specs.Steps.{Step, step_of, step_name, step_rows, step_goals}
-use Rattle.pm_run.specs.Stepping.{meaning, IsWithin, Shows}
-use Rattle.pm_run.specs.Runs.{OpenProof, State, Answer, moves, refuses, unbuilt, Answers, is_used, opening, predicate_rows, with_predicate, lemma_rows, opened, proved, proof_rows, qed_rows, qed_state, directive_rows, directive_state, goal_rows, new_goals, Does}
-use Rattle.pm_run.specs.Runs as runs
-use Rattle.pm_run.specs.Keeping.{IsLeft, IsSafe, KeepsProof, KeepsProofs, table, tables, Keeps, IsSayable, IsAnswered, IsDone, IsDoing, AreWithin, IsBegun, IsStepped, IsProved, UsesLastName, DirectsIf, StatesNothing}
-use Rattle.pm_run.proofs.Growing.{scoped_longer, among_before}
-use Rattle.pm_run.proofs.Meanings.{left_depth, concl_depth, step_scoped, step_within}
+use Rattle.pm_run.specs.Within.{meaning}
+use Rattle.pm_run.specs.Runs.{OpenProof, State, Answer, moves, refuses, unbuilt, Answers, is_used, scope_by, opening, table, stated, proved_lemmas, predicate_rows, with_predicate, lemma_rows, opened, with_proof, proved, proof_rows, qed_rows, qed_state, beside, step_first, answer_to, step_open, directed, Does}
+use Rattle.pm_run.specs.Keeping.{IsSafe, KeepsProof, KeepsProofs, tables, Keeps, IsSayable, IsAnswered, IsDone, IsDoing, open_of, scope_of, TermsFit, FitsFirst, AreSound, IsBegun, StepsFirst, IsStepped, IsProved, UsesLastName, StatesNothing}
+use Rattle.pm_run.proofs.SoundGoals.{all_sound, opening_left}
+use Rattle.pm_run.proofs.Advances.{kept_step}
+use Rattle.pm_run.proofs.Handed.{fits_first}
+use Rattle.pm_run.proofs.Growing.{among_before}
 use Rattle.pm_run.proofs.Sounds.{none_when, sound_predicate, sound_lemma, sound_qed, sound_step, new_qed, names_with_predicate, names_proved}
 
 -- ---- numbers
@@ -97,13 +102,6 @@ each_more {A} P xs x all here = λ before y behind e. go before y (last_or_befor
     go before y (inl s) = subst (λ ys. P ys y) (sym s.0) (subst (P xs) (sym s.1) here)
     go before y (inr s) = all before y s.0 s.1
 
-counted : (t : Tree) → length (holes_of t) ≡ hole_count t
-counted (Hole e) = refl
-counted (Axiom r e) = refl
-counted (First r e a) = counted a
-counted (Second r e b) = counted b
-counted (Both r e a b) = length-append (holes_of a) (holes_of b) ∙ ap₂ (λ n m. n + m) (counted a) (counted b)
-
 -- ---- answers
 
 pub refused_is : (name : List ℕ) (table : Table) (state : State) (old new : Running) (d : Done) (row : Row) → d ≡ done.Refused (refusal row name) → table (Some row) → new ≡ old → IsAnswered name table state old new d
@@ -149,11 +147,6 @@ none_kept on known None None closed same = tt
 none_kept on known p (Some o) closed same = absurd (closed refl)
 none_kept on known (Some p) None closed same = absurd cc
 
--- in every goal that is left the limits are kept
-pub all_within : (on : Tables) (goals : List Goal) → AllByRecursion (IsLeft on) goals → AreWithin goals
-all_within on [] all = tt
-all_within on (g ∷ gs) all = (all.0.within, all_within on gs all.1)
-
 -- ---- predicates
 
 -- no row: not too many parameters
@@ -191,20 +184,6 @@ predicate_added old new s name params body count arity k sayable counts arities 
 
 -- ---- lemmas
 
--- what a lemma opens with is within the limits, and scoped in each table that comes
-opening_scoped : (s : State) (statement : Formula) (preds : Preds) → InRange (arities_of s.preds) 0 statement → IsAmong (tables s) preds → EntailScoped preds (meaning (opening statement))
-unfolding star_onto
-opening_scoped s statement preds over among = (truth_scoped preds 0, scoped_longer (table s) preds 0 statement among over)
-
-opening_within : (s : State) (statement : Formula) → InRange (arities_of s.preds) 0 statement → depth_of statement ≤ MAX_LEVELS → IsWithin (opening statement)
-opening_within s statement over shallow = record {
-  vars = omega arith;
-  few = omega arith;
-  shallow = omega (arith, shallow);
-  preds = table s;
-  scoped = opening_scoped s statement (table s) over ([], sym (append-nil s.preds));
-}
-
 pub lemma_opened : (old : Running) (s : State) (name : List ℕ) (statement : Formula) (p : Proof) → Keeps old s → IsSayable s (sentence.Lemma name statement) → IsBegun name statement p → lemma_rows s name statement None
     → lemma_rows s name statement None × Keeps (record { preds = old.preds; names = old.names; lemmas = old.lemmas; proofs = old.proofs; proof = Some p }) (opened s name statement)
 lemma_opened old s name statement p k sayable begun rows = (
@@ -221,7 +200,7 @@ lemma_opened old s name statement p k sayable begun rows = (
       goals_are = ap reverse begun.goals_are;
       leads = subst (λ (ss : List ProofStep). Leads (meaning (opening statement) ∷ []) ss (meaning (opening statement) ∷ [])) (sym begun.steps_are) refl;
       safe = subst (AllByRecursion (IsSafe (tables s) (conclusions old.proofs))) (sym begun.steps_are) tt;
-      left = (record { within = opening_within s statement sayable.1 sayable.2; scoped = λ preds among. opening_scoped s statement preds sayable.1 among }, tt);
+      left = (opening_left s statement (none_when (none_when (none_when rows).1).1).1 sayable.1, tt);
     };
     sound = sound_lemma s name statement k.sound sayable rows;
   },
@@ -268,6 +247,14 @@ proof_writable old s p o t preds k is keeps none joins among =
       holes = (subst (AllByRecursion (AllByRecursion (IsOneOf known))) joins.holes lemmas).0;
     }
 
+-- one lemma more is proved
+lemmas_proved : (old : Running) (s : State) (p : Proof) (o : OpenProof) (new : Running) → Keeps old s → p.name ≡ o.name → p.statement ≡ o.statement → new.lemmas.list ≡ old.lemmas.list ++ record { name = p.name; formula = p.statement } ∷ [] → new.lemmas ≡ proved_lemmas (proved s o)
+lemmas_proved old s p o new k names statements lists = ap (λ (ls : List Lemma). record { list = ls }) (
+    lists
+    ∙ ap₂ (λ (ls : List Lemma) (l : Lemma). ls ++ l ∷ []) (ap (λ (ls : Lemmas). ls.list) k.lemmas_are) (ap₂ (λ (n : List ℕ) (f : Formula). record { name = n; formula = f }) names statements)
+    ∙ sym (map_end stated s.lemmas (record { name = o.name; formula = o.statement }))
+    )
+
 pub qed_done : (old : Running) (s : State) (p : Proof) (new : Running)
     → Keeps old s → old.proof ≡ Some p → length p.goals ≡ 0 → IsProved (record old { proof = None }) p new
     → qed_rows s.proof None × Keeps new (qed_state s s.proof)
@@ -282,7 +269,7 @@ qed_done old s p new k e none done =
       subst (λ (q : Option OpenProof). Keeps new (qed_state s q)) (sym op.is) (record {
         preds_are = ap (λ (ps : Preds). ps.list) done.preds_are ∙ k.preds_are;
         names_are = λ n. done.names_are.has n ∙ (ap₂ (λ b m. b || bytes_eq n m) (k.names_are n) op.keeps.name_is ∙ sym (names_proved s o n));
-        lemmas_are = let more = length-append s.lemmas (record { name = o.name; formula = o.statement } ∷ []) in let was = k.lemmas_are in let count = done.lemmas_are in omega (arith, count, more, was);
+        lemmas_are = lemmas_proved old s p o new k op.keeps.name_is op.keeps.statement_is done.lemmas_are;
         states = ap (map statement_of) done.proofs_are ∙ map_end statement_of old.proofs x ∙ ap₂ (λ (ls : List Statement) (l : Statement). ls ++ l ∷ []) k.states says;
         writable = λ preds among. subst (AreWritable preds) (sym done.proofs_are) (each_more (IsWritable preds) old.proofs x (k.writable preds among) (proof_writable old s p o done.proof preds k op.is op.keeps goals done.joins among));
         proof_is = subst (λ (q : Option Proof). KeepsProofs (tables s) (conclusions new.proofs) q None) (sym done.proof_is) tt;
@@ -292,100 +279,77 @@ qed_done old s p new k e none done =
 
 -- ---- directives
 
--- the steps lead on
-steps_lead : (start : Entail) (ss : List ProofStep) (step : ProofStep) (goal : Goal) (rest more : List Goal) → Leads (start ∷ []) ss (map meaning (goal ∷ rest)) → conclusion step.proof ≡ meaning goal → holes_of step.proof ≡ map meaning more → step.goals ≡ length more → Leads (start ∷ []) (ss ++ step ∷ []) (map meaning (more ++ rest))
-steps_lead start ss step goal rest more leads concl holes count =
-    let all : goals_of step ≡ map meaning more = ap₂ take (count ∙ sym (length-map more meaning)) holes ∙ take_all (length (map meaning more)) (map meaning more) (omega arith) in
-    let enough : step.goals ≤ hole_count step.proof = omega (arith, count, counted step.proof, ap length holes, length-map more meaning) in
-    subst (Leads (start ∷ []) (ss ++ step ∷ [])) (ap (λ (es : List Entail). es ++ map meaning rest) all ∙ sym (map-append meaning more rest)) (leads_more (start ∷ []) ss step (meaning goal) (map meaning rest) leads concl enough)
-
--- the new goals are left
-more_left : (on : Tables) (goal : Goal) (d : Step) → IsLeft on goal → step_rows goal d None → AllByRecursion (IsLeft on) (step_goals goal d)
-more_left on goal d left rows = go (step_goals goal d) (step_within goal d left.within rows) (λ preds among. step_scoped preds goal d (left.scoped preds among))
-  where
-    go : (gs : List Goal) → AllByRecursion IsWithin gs → ((preds : Preds) → IsAmong on preds → AllByRecursion (λ g. EntailScoped preds (meaning g)) gs) → AllByRecursion (IsLeft on) gs
-    go [] w s = tt
-    go (g ∷ gs) w s = (record { within = w.0; scoped = λ preds among. (s preds among).0 }, go gs w.1 (λ preds among. (s preds among).1))
-
-all_append : {A : Type 0} (P : A → Type 0) (xs ys : List A) → AllByRecursion P xs → AllByRecursion P ys → AllByRecursion P (xs ++ ys)
-all_append P [] ys all behind = behind
-all_append P (x ∷ xs) ys all behind = (all.0, all_append P xs ys all.1 behind)
-
--- the step's proof is safe
-step_safe : (on : Tables) (known : List Entail) (goal : Goal) (d : Step) (step : ProofStep) → IsLeft on goal → AllByRecursion (IsLeft on) (step_goals goal d) → step.goals ≡ length (step_goals goal d) → Shows goal (map meaning (step_goals goal d)) step.proof → IsSafe on known step
-step_safe on known goal d step left more count shows =
-    let hs : List Entail = map meaning (step_goals goal d) in
-    record {
-      valid = λ preds among. shows.valid preds tt;
-      scoped = λ preds among. shows.scoped preds (left.scoped preds among) (mapped_scoped preds among (step_goals goal d) more);
-      shallow = omega (arith, shows.shallow, left_depth goal left.within, concl_depth goal left.within);
-      narrow = omega (arith, shows.narrow, left_depth goal left.within, concl_depth goal left.within, left.within.vars);
-      lemmas = subst (AllByRecursion (IsOneOf known)) (sym (ap₂ drop (count ∙ sym (length-map (step_goals goal d) meaning)) shows.holes ∙ drop-length hs)) tt;
-    }
-  where
-    mapped_scoped : (preds : Preds) → IsAmong on preds → (gs : List Goal) → AllByRecursion (IsLeft on) gs → AllByRecursion (EntailScoped preds) (map meaning gs)
-    mapped_scoped preds among [] all = tt
-    mapped_scoped preds among (g ∷ gs) all = (all.0.scoped preds among, mapped_scoped preds among gs all.1)
-
-module _ (old : Running) (s : State) (p : Proof) (d : Step) (k : Keeps old s) (e : old.proof ≡ Some p) where
+module _ (old : Running) (s : State) (p : Proof) (x : Directive) (k : Keeps old s) (e : old.proof ≡ Some p) where
   the_proof : IsOpen old s p
   the_proof = is_opened old s p e k
 
   abbrev o : OpenProof
   o = the_proof.o
 
-  pub goals_within : AreWithin (reverse p.goals)
-  goals_within = subst AreWithin (sym the_proof.keeps.goals_are) (all_within (tables s) o.goals the_proof.keeps.left)
+  pub goals_sound : AreSound (reverse p.goals)
+  goals_sound = subst AreSound (sym the_proof.keeps.goals_are) (all_sound s o.goals the_proof.keeps.left)
 
-  -- what the row that was found says of the state
-  pub row_found : (row : Option Row) → goal_rows (reverse p.goals) d row → directive_rows s.proof d row
-  row_found row rows = subst (λ (x : Option OpenProof). directive_rows x d row) (sym the_proof.is) (subst (λ (gs : List Goal). goal_rows gs d row) the_proof.keeps.goals_are rows)
+  pub goals_handed : TermsFit (length (scope_of old)) x → FitsFirst x (reverse p.goals)
+  goals_handed h = fits_first x p.name p.statement (reverse p.goals) (subst (λ (q : Option Proof). TermsFit (length (scope_by (option_map open_of q))) x) e h)
 
-  pub directive_moved : (q : Proof) → goal_rows (reverse p.goals) d None → IsStepped p d q
-      → directive_rows s.proof d None × Keeps (record { preds = old.preds; names = old.names; lemmas = old.lemmas; proofs = old.proofs; proof = Some q }) (directive_state s s.proof d)
-  directive_moved q rows stepped = (
-    row_found None rows,
-    subst (λ (x : Option OpenProof). Keeps (record { preds = old.preds; names = old.names; lemmas = old.lemmas; proofs = old.proofs; proof = Some q }) (directive_state s x d)) (sym the_proof.is) (record {
-      preds_are = k.preds_are;
-      names_are = k.names_are;
-      lemmas_are = k.lemmas_are;
-      states = k.states;
-      writable = k.writable;
-      proof_is = kept_step;
-      sound = sound_step s o (new_goals o.goals d) the_proof.is k.sound;
-    }),
-  )
+  -- what the code of the step answers, by the state
+  here : (result : Result (Parts Goal) StepFault) → StepsFirst old.preds old.lemmas (reverse p.goals) x result → StepsFirst (table s) (proved_lemmas s) o.goals x result
+  here result h =
+      subst (λ (gs : List Goal). StepsFirst (table s) (proved_lemmas s) gs x result) the_proof.keeps.goals_are
+      (subst (λ (ls : Lemmas). StepsFirst (table s) ls (reverse p.goals) x result) k.lemmas_are
+      (subst (λ (ps : List Pred). StepsFirst (record { list = ps }) old.lemmas (reverse p.goals) x result) k.preds_are h))
+
+  open_is : (answer : Option OpenProof → Type 0) → answer (Some o) → answer s.proof
+  open_is answer h = subst answer (sym the_proof.is) h
+
+  abbrev moved : Proof → Running
+  moved q = record old { proof = Some q }
+
+  -- the state that keeps a proof which is a step further
+  keeps_moved : (q : Proof) (gs : List Goal) → KeepsProof (tables s) (conclusions old.proofs) q (record o { goals = gs }) → Keeps (moved q) (with_proof s (Some (record o { goals = gs })))
+  keeps_moved q gs keeps = record {
+    preds_are = k.preds_are;
+    names_are = k.names_are;
+    lemmas_are = k.lemmas_are;
+    states = k.states;
+    writable = k.writable;
+    proof_is = keeps;
+    sound = sound_step s o gs the_proof.is k.sound;
+  }
+
+  stepped_here : (q : Proof) (g : Goal) (gs : List Goal) (n : ℕ) (parts : Parts Goal) (r : Stepped) → o.goals ≡ g ∷ gs → IsStepped p parts q → StepAnswers g n r (Ok parts) → IsDone old (moved q) (answer_to s o (beside r gs)) done.Moved
+  stepped_here q g gs n parts (steps.goals new) goals stepped leaves = (refl, keeps_moved q (new ++ gs) (kept_step (tables s) (conclusions old.proofs) p q o g gs new n parts the_proof.keeps goals leaves stepped))
+  stepped_here q g gs n parts (steps.refused r) goals stepped leaves = absurd leaves
+
+  moved_by : (q : Proof) (parts : Parts Goal) (gs : List Goal) → o.goals ≡ gs → IsStepped p parts q → StepsFirst (table s) (proved_lemmas s) gs x (Ok parts) → IsDone old (moved q) (answer_to s o (step_first (table s) (proved_lemmas s) gs x)) done.Moved
+  unfolding StepsFirst step_first
+  moved_by q parts [] goals stepped h = absurd h
+  moved_by q parts (g ∷ gs) goals stepped h = stepped_here q g gs (step_rules (table s) (proved_lemmas s) g x) parts (step (table s) (proved_lemmas s) g x) goals stepped h
+
+  pub directive_moved : (q : Proof) (parts : Parts Goal) → StepsFirst old.preds old.lemmas (reverse p.goals) x (Ok parts) → IsStepped p parts q → IsDone old (moved q) (step_open s s.proof x) done.Moved
+  directive_moved q parts h stepped = open_is (λ (op : Option OpenProof). IsDone old (moved q) (step_open s op x) done.Moved) (moved_by q parts o.goals refl stepped (here (Ok parts) h))
+
+  refused_here : (g : Goal) (gs : List Goal) (n : ℕ) (r : Stepped) (by : Refusal) → StepAnswers g n r (Err (fault.Refused by)) → IsDone old (moved p) (answer_to s o (beside r gs)) (done.Refused by)
+  refused_here g gs n (steps.goals new) by h = absurd h
+  refused_here g gs n (steps.refused r) by h = (ap done.Refused h, same)
     where
-      on : Tables
-      on = tables s
+      same : moved p ≡ old
+      same = ap (λ (q : Option Proof). record old { proof = q }) (sym e)
 
-      goals : o.goals ≡ stepped.goal ∷ stepped.rest
-      goals = sym the_proof.keeps.goals_are ∙ stepped.first_is
+  refused_by : (by : Refusal) (gs : List Goal) → StepsFirst (table s) (proved_lemmas s) gs x (Err (fault.Refused by)) → IsDone old (moved p) (answer_to s o (step_first (table s) (proved_lemmas s) gs x)) (done.Refused by)
+  unfolding StepsFirst step_first
+  refused_by by [] h = (ap done.Refused h, ap (λ (q : Option Proof). record old { proof = q }) (sym e))
+  refused_by by (g ∷ gs) h = refused_here g gs (step_rules (table s) (proved_lemmas s) g x) (step (table s) (proved_lemmas s) g x) by h
 
-      left : AllByRecursion (IsLeft (tables s)) (stepped.goal ∷ stepped.rest)
-      left = subst (AllByRecursion (IsLeft (tables s))) goals the_proof.keeps.left
+  pub directive_refused : (by : Refusal) → StepsFirst old.preds old.lemmas (reverse p.goals) x (Err (fault.Refused by)) → IsDone old (moved p) (step_open s s.proof x) (done.Refused by)
+  directive_refused by h = open_is (λ (op : Option OpenProof). IsDone old (moved p) (step_open s op x) (done.Refused by)) (refused_by by o.goals (here (Err (fault.Refused by)) h))
 
-      no_row : step_rows stepped.goal d None
-      no_row = subst (λ (gs : List Goal). goal_rows gs d None) stepped.first_is rows
+-- where it is built
+pub directs_if : (b : Bool) (x : Directive) (s : State) (old new : Running) (d : Done) → b ≡ is_built x → b ≡ true → IsDone old new (step_open s s.proof x) d → IsDone old new (directed s x) d
+directs_if b x s old new d is built h = subst (λ (c : Bool). IsDone old new (if c then step_open s s.proof x else unbuilt) d) (sym built ∙ is) h
 
-      more : AllByRecursion (IsLeft (tables s)) (step_goals stepped.goal d)
-      more = more_left (tables s) stepped.goal d left.0 no_row
-
-      news : new_goals o.goals d ≡ step_goals stepped.goal d ++ stepped.rest
-      news = ap (λ (gs : List Goal). new_goals gs d) goals
-
-      kept_step : KeepsProof (tables s) (conclusions old.proofs) q (record o { goals = new_goals o.goals d })
-      kept_step = record {
-        name_is = stepped.name_is ∙ the_proof.keeps.name_is;
-        statement_is = stepped.statement_is ∙ the_proof.keeps.statement_is;
-        goals_are = stepped.goals_are ∙ ap (λ (gs : List Goal). new_goals gs d) the_proof.keeps.goals_are;
-        leads = subst (λ (ss : List ProofStep). Leads (meaning (opening o.statement) ∷ []) ss (map meaning (new_goals o.goals d))) (sym stepped.steps_are)
-            (subst (λ (gs : List Goal). Leads (meaning (opening o.statement) ∷ []) (p.steps.items ++ stepped.step ∷ []) (map meaning gs)) (sym news)
-            (steps_lead (meaning (opening o.statement)) p.steps.items stepped.step stepped.goal stepped.rest (step_goals stepped.goal d) (subst (λ (gs : List Goal). Leads (meaning (opening o.statement) ∷ []) p.steps.items (map meaning gs)) goals the_proof.keeps.leads) stepped.shows.concludes stepped.shows.holes stepped.count_is));
-        safe = subst (AllByRecursion (IsSafe (tables s) (conclusions old.proofs))) (sym stepped.steps_are)
-            (all_append (IsSafe (tables s) (conclusions old.proofs)) p.steps.items (stepped.step ∷ []) the_proof.keeps.safe (step_safe (tables s) (conclusions old.proofs) stepped.goal d stepped.step left.0 more stepped.count_is stepped.shows, tt));
-        left = subst (AllByRecursion (IsLeft (tables s))) (sym news) (all_append (IsLeft (tables s)) (step_goals stepped.goal d) stepped.rest more left.1);
-      }
+pub directs_nothing : (b : Bool) (x : Directive) (s : State) (old : Running) → b ≡ is_built x → b ≡ false → IsDone old old (directed s x) done.Unbuilt
+directs_nothing b x s old is built = subst (λ (c : Bool). IsDone old old (if c then step_open s s.proof x else unbuilt) done.Unbuilt) (sym built ∙ is) (refl, refl)
 
 -- ---- whole sentences
 
@@ -409,13 +373,9 @@ pub does_qed : (s : State) (old new : Running) (d : Done) → IsAnswered [] (qed
 unfolding Does
 does_qed s old new d h = does_by s sentence.Qed [] (qed_rows s.proof) (qed_state s s.proof) old new d (λ a x. x) h
 
-pub does_directive : (old new : Running) (x : Directive) (d : Done) → DirectsIf old (step_of x) new d → (s : State) → Keeps old s → IsDoing s (sentence.Directive x) old new d
+pub does_directive : (s : State) (x : Directive) (old new : Running) (d : Done) → IsDone old new (directed s x) d → IsDoing s (sentence.Directive x) old new d
 unfolding Does
-does_directive old new x d h s k = go (step_of x) refl h
-  where
-    go : (o : Option Step) → step_of x ≡ o → DirectsIf old o new d → IsDoing s (sentence.Directive x) old new d
-    go None e h = record { answer = unbuilt; does = subst (λ (o : Option Step). runs.Directs s o unbuilt) (sym e) refl; is_done = h }
-    go (Some step) e h = does_by s (sentence.Directive x) (step_name step) (directive_rows s.proof step) (directive_state s s.proof step) old new d (λ a y. subst (λ (o : Option Step). runs.Directs s o a) (sym e) y) (h s k)
+does_directive s x old new d h = record { answer = directed s x; does = refl; is_done = h }
 
 -- a sentence that isn't built
 pub does_nothing : (s : State) (x : Sentence) (old : Running) → Does s x unbuilt → IsDoing s x old old done.Unbuilt
@@ -432,12 +392,12 @@ not_built s x (inr (inr (inr (inr (inr e))))) = subst (λ y. Does s y unbuilt) (
 
 -- ---- what a sentence states
 
-pub is_predicate : (x : Sentence) (name : List ℕ) (params : List (List ℕ)) (body : Formula) → stated_of x ≡ Ok (stated.Predicate name params body) → x ≡ sentence.Predicate name params body
+pub is_predicate : (x : Sentence) (name : List ℕ) (params : List (List ℕ)) (body : Formula) → stated_of x ≡ Ok (stating.Predicate name params body) → x ≡ sentence.Predicate name params body
 unfolding stated_of
 is_predicate (sentence.Predicate m qs b) name params body e = cc
 is_predicate x name params body e = absurd cc
 
-pub is_lemma : (x : Sentence) (name : List ℕ) (statement : Formula) → stated_of x ≡ Ok (stated.Lemma name statement) → x ≡ sentence.Lemma name statement
+pub is_lemma : (x : Sentence) (name : List ℕ) (statement : Formula) → stated_of x ≡ Ok (stating.Lemma name statement) → x ≡ sentence.Lemma name statement
 unfolding stated_of
 is_lemma (sentence.Lemma m f) name statement e = cc
 is_lemma x name statement e = absurd cc

@@ -21,7 +21,7 @@ use Rattle.pm_run.specs.Runs.{OpenProof, State, start}
 use Rattle.pm_run.specs.Keeping.{KeepsProofs, tables, Keeps}
 use Rattle.pm_run.specs.Halting.{HaltsFrom, Halts, goals_of, EachWithin, halted, HaltsAs}
 use Rattle.pm_run.specs.Looping.{AtSpan, AtSpans, end_parts, end_rest, IsCut, HaltsWith, HaltsAtEnd, HaltsKept}
-use Rattle.pm_run.proofs.Doings.{all_within}
+use Rattle.pm_run.proofs.SoundGoals.{all_within}
 use Rattle.pm_run.proofs.Halts.{halts_cut_off, halts_done}
 use Rattle.pm_run.proofs.Looped.{cut_is}
 
@@ -70,11 +70,11 @@ left_goals on known (Some p) (Some o) k = ap (λ (gs : List Goal). Some gs) k.go
 left_goals on known None (Some o) k = absurd k
 left_goals on known (Some p) None k = absurd k
 
-left_within : (on : Tables) (known : List Entail) (p : Option Proof) (o : Option OpenProof) → KeepsProofs on known p o → EachWithin (goals_of o)
-left_within on known None None k = tt
-left_within on known (Some p) (Some o) k = all_within on o.goals k.left
-left_within on known None (Some o) k = absurd k
-left_within on known (Some p) None k = absurd k
+left_within : (s : State) (known : List Entail) (p : Option Proof) (o : Option OpenProof) → KeepsProofs (tables s) known p o → EachWithin (goals_of o)
+left_within s known None None k = tt
+left_within s known (Some p) (Some o) k = all_within s o.goals k.left
+left_within s known None (Some o) k = absurd k
+left_within s known (Some p) None k = absurd k
 
 pub halts_as : (bytes : List ℕ) (r : Running) (by : Option Stop) → HaltsKept bytes r by → HaltsAs bytes (halted r by)
 halts_as bytes r by h =
@@ -84,5 +84,5 @@ halts_as bytes r by h =
       halts = h.halts;
       preds_are = h.kept.preds_are;
       goals_are = goals;
-      within = subst EachWithin (sym goals) (left_within (tables h.state) (conclusions r.proofs) r.proof h.state.proof h.kept.proof_is);
+      within = subst EachWithin (sym goals) (left_within h.state (conclusions r.proofs) r.proof h.state.proof h.kept.proof_is);
     }

@@ -40,6 +40,7 @@ use Rattle.pm_run.specs.declared.stop.Stop.{Stop}
 use Rattle.pm_run.specs.declared.stop.Stop.TheVariants as stop
 use Rattle.pm_run.specs.Runs.{OpenProof, State, start, scope, scope_by, Answer, moves, refuses, unbuilt, Does, Outcome, accepted, refused, unreadable, RunsFrom, does_not_read, is_unbuilt, is_refused, goes_on, is_cut_off, ends_inside, ends}
 use Rattle.pm_run.specs.Keeping.{Keeps, IsLeft, KeepsProofs, tables, scope_of, IsKept, IsDone, DoesSentence}
+use Rattle.pm_run.proofs.SoundGoals.{limits_of}
 use Rattle.pm_run.proofs.Doings.{kept_open}
 use Rattle.pm_run.proofs.Halts.{halts_unread, halts_refused, halts_unbuilt, halts_on}
 use Rattle.pm_run.specs.Coming.{limit, ComesTo}
@@ -73,7 +74,7 @@ few_by on known (Some p) (Some o) k = go o.goals k.left
   where
     go : (gs : List Goal) → AllByRecursion (IsLeft on) gs → length (scope_by (Some (record o { goals = gs }))) ≤ 64
     go [] all = omega arith
-    go (g ∷ gs) all = omega (arith, length-reverse g.vars, all.0.within.vars)
+    go (g ∷ gs) all = omega (arith, length-reverse g.vars, (limits_of g all.0.fit.within).vars)
 few_by on known None (Some o) k = absurd k
 few_by on known (Some p) None k = absurd k
 

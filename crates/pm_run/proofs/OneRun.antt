@@ -3,16 +3,13 @@ use Rattle.std.proofs.Common.{◌≡◌, ◌⊎◌, inl, inr, ℕ, ◌+◌, Bool
 use Rattle.pm_logic.specs.declared.formula.Formula.{Formula}
 use Rattle.pm_terms.specs.declared.fault.TextFault.{TextFault}
 use Rattle.pm_terms.specs.declared.fault.TextFault.TheVariants.{Unexpected}
-use Rattle.pm_goal.specs.declared.goal.Goal.{Goal}
-use Rattle.pm_goal.specs.declared.goal.Hyp.{Hyp}
 use Rattle.pm_cutter.specs.Cutting.{Part, cut, rest_of}
 use Rattle.pm_script.specs.declared.sentence.Sentence.{Sentence}
 use Rattle.pm_script.specs.declared.sentence.Sentence.TheVariants as sentence
 use Rattle.pm_goal.specs.declared.refusal.Row.{Row}
 use Rattle.pm_goal.specs.declared.refusal.Refusal.{Refusal}
-use Rattle.pm_run.specs.Rows.{Table, when_large}
-use Rattle.pm_run.specs.Steps.{Step, intro, exact, step_of, step_name, step_rows, sides_of, hyp_of, intro_rows, exact_rows}
-use Rattle.pm_run.specs.Runs.{OpenProof, State, start, Answer, moves, refuses, unbuilt, answer_of, Answers, predicate_rows, with_predicate, lemma_rows, opened, proof_rows, qed_rows, qed_state, goal_rows, directive_rows, directive_state, Directs, Does, Outcome, refused, unreadable, RunsFrom, does_not_read, is_unbuilt, is_refused, goes_on, is_cut_off, ends_inside, ends}
+use Rattle.pm_run.specs.Rows.{Table}
+use Rattle.pm_run.specs.Runs.{OpenProof, State, start, Answer, moves, refuses, unbuilt, answer_of, Answers, predicate_rows, with_predicate, lemma_rows, opened, proof_rows, qed_rows, qed_state, Does, Outcome, refused, unreadable, RunsFrom, does_not_read, is_unbuilt, is_refused, goes_on, is_cut_off, ends_inside, ends}
 use Rattle.pm_run.specs.Coming.{RunsAreOne}
 
 -- ---- a table answers one row
@@ -46,35 +43,10 @@ one_qed : (o : Option OpenProof) → IsOne (qed_rows o)
 one_qed None a b x y = both_are x y
 one_qed (Some p) a b x y = one_when x y (λ e f. both_are e f)
 
-one_intro : (goal : Goal) (name : List ℕ) (sides : Option (Bool × Formula × Formula)) → IsOne (intro_rows goal name sides)
-one_intro goal name None a b x y = both_are x y
-one_intro goal name (Some (implies, left, right)) a b x y =
-    one_when x y (λ x1 y1. one_when x1 y1 (λ x2 y2. one_when x2 y2 (λ x3 y3. one_when x3 y3 (λ x4 y4. one_when x4 y4 (λ x5 y5. one_when x5 y5 (λ e f. both_are e f))))))
-
-one_exact : (goal : Goal) (name : List ℕ) (hyp : Option Hyp) → IsOne (exact_rows goal name hyp)
-one_exact goal name None a b x y = both_are x y
-one_exact goal name (Some h) a b x y = one_when x y (λ e f. both_are e f)
-
-one_step : (goal : Goal) (step : Step) → IsOne (step_rows goal step)
-one_step goal (intro name) a b x y = one_intro goal name (sides_of goal.concl) a b x y
-one_step goal (exact name) a b x y = one_exact goal name (hyp_of goal name) a b x y
-
-one_goal : (goals : List Goal) (step : Step) → IsOne (goal_rows goals step)
-one_goal [] step a b x y = both_are x y
-one_goal (g ∷ gs) step a b x y = one_step g step a b x y
-
-one_directive : (o : Option OpenProof) (step : Step) → IsOne (directive_rows o step)
-one_directive None step a b x y = both_are x y
-one_directive (Some p) step a b x y = one_goal p.goals step a b x y
-
 -- ---- a sentence does one thing
 
 one_answer : (name : List ℕ) (table : Table) (new : State) (a b : Answer) → IsOne table → Answers name table new a → Answers name table new b → a ≡ b
 one_answer name table new a b one x y = x.2 ∙ ap (answer_of name new) (one x.0 y.0 x.1 y.1) ∙ sym y.2
-
-one_directs : (s : State) (step : Option Step) (a b : Answer) → Directs s step a → Directs s step b → a ≡ b
-one_directs s None a b x y = both_are x y
-one_directs s (Some step) a b x y = one_answer (step_name step) (directive_rows s.proof step) (directive_state s s.proof step) a b (one_directive s.proof step) x y
 
 one_does : (s : State) (x : Sentence) (a b : Answer) → Does s x a → Does s x b → a ≡ b
 unfolding Does
@@ -82,7 +54,7 @@ one_does s (sentence.Predicate name params body) a b u v = one_answer name (pred
 one_does s (sentence.Lemma name statement) a b u v = one_answer name (lemma_rows s name statement) (opened s name statement) a b (one_lemma s name statement) u v
 one_does s sentence.Proof a b u v = one_answer [] (proof_rows s) s a b (one_proof s) u v
 one_does s sentence.Qed a b u v = one_answer [] (qed_rows s.proof) (qed_state s s.proof) a b (one_qed s.proof) u v
-one_does s (sentence.Directive d) a b u v = one_directs s (step_of d) a b u v
+one_does s (sentence.Directive d) a b u v = both_are u v
 one_does s x a b u v = both_are u v
 
 -- ---- a run comes to one thing

@@ -1,18 +1,64 @@
 -- The rows of predicates and lemmas, by what the code tests.
-use Rattle.std.proofs.Common.{◌≡◌, ◌↔◌, ℕ, ◌-◌, ◌^◌, ◌<◌, ◌≤◌, min, Bool, true, false, not, List, [], ◌∷◌, ◌++◌, length, length-append, refl, sym, ◌∙◌, ap, subst, arith, Option, None}
+use Rattle.std.proofs.Common.{◌≡◌, ◌⊎◌, ◌↔◌, inl, inr, ℕ, ◌-◌, ◌^◌, ◌<◌, ◌≤◌, min, Bool, true, false, not, List, [], ◌∷◌, ◌++◌, length, length-append, refl, sym, ◌∙◌, ap, subst, arith, Option, Some, None}
 use Rattle.std.specs.Prelude.{IsTrue, nat_lt, nat_le}
 use Rattle.std.proofs.lemmas.Bool.Decides.{nat_tests}
-use Rattle.pm_logic.specs.declared.limits.TheConstants.{MAX_LEMMAS, MAX_LEVELS, MAX_NODES, MAX_PREDICATES, MAX_VARIABLES}
+use Rattle.std.proofs.lemmas.List.{length-map}
+use Rattle.pm_logic.specs.declared.limits.TheConstants.{MAX_HYPOTHESES, MAX_LEMMAS, MAX_LEVELS, MAX_NODES, MAX_PREDICATES, MAX_VARIABLES}
 use Rattle.pm_logic.specs.declared.formula.Formula.{Formula}
 use Rattle.pm_logic.specs.declared.formula.Pred.{Pred}
 use Rattle.pm_logic.specs.Scope.{body_of}
 use Rattle.pm_logic.specs.Guard.{CallsBelow}
 use Rattle.pm_logic.specs.Size.{nodes_of, depth_of}
+use Rattle.pm_goal.specs.declared.goal.Goal.{Goal}
+use Rattle.pm_goal.specs.declared.work.Lemmas.{Lemmas}
 use Rattle.pm_goal.specs.declared.refusal.Row.{Row}
-use Rattle.pm_goal.specs.declared.refusal.Row.TheVariants.{ProofIsOpen, NameIsDefined, NotGuarded, TooManyVariables, TooManyNodes, TooDeep, TooManyPredicates, TooManyLemmas}
-use Rattle.pm_run.specs.Rows.{Table, when, row_if, size_row, no_row, when_large}
-use Rattle.pm_run.specs.Runs.{State, is_open, is_used, opening, predicate_rows, lemma_rows}
-use Rattle.pm_run.proofs.Steppings.{row_is, row_where, row_above, large_rows}
+use Rattle.pm_goal.specs.declared.refusal.Row.TheVariants.{ProofIsOpen, NameIsDefined, NotGuarded, TooManyVariables, TooManyHypotheses, TooManyNodes, TooDeep, TooManyPredicates, TooManyLemmas}
+use Rattle.pm_table.specs.Limits.{formulas, all_nodes, greatest_depth}
+use Rattle.pm_run.specs.Rows.{Table, when, row_if, size_row, no_row, when_large, held}
+use Rattle.pm_run.specs.Runs.{State, is_open, is_used, opening, stated, proved_lemmas, predicate_rows, lemma_rows}
+
+-- ---- rows
+
+-- a row that is tested by this answer, before others
+pub row_is : (b : Bool) (P : Type 0) (row : Row) (others : Table) (o : Option Row) → (b ≡ true → P) → (b ≡ false → ¬ P) → others o → when P row others (row_if b row o)
+row_is true P row others o yes_if no_if rest = inl (yes_if refl, refl)
+row_is false P row others o yes_if no_if rest = inr (no_if refl, rest)
+
+pub row_where : (b : Bool) (row : Row) (o : Option Row) (others : Table) → others o → when (IsTrue b) row others (row_if b row o)
+row_where b row o others rest = row_is b (IsTrue b) row others o (λ e. e) (λ e. λ t. absurd (let f : true ≡ false = sym t ∙ e in cc)) rest
+
+-- a number above a limit, tested by another
+pub row_above : (limit n m : ℕ) (row : Row) (others : Table) (o : Option Row) → (limit < m → limit < n) → (limit < n → limit < m) → others o → when (limit < n) row others (row_if (nat_lt limit m) row o)
+row_above limit n m row others o to back rest = row_is (nat_lt limit m) (limit < n) row others o (λ e. to (grind (arith, nat_tests, e))) (λ e. λ lt. let m_above = back lt in grind (arith, nat_tests, e, m_above)) rest
+
+-- ---- the size of a goal
+
+module _ (goal : Goal) (others : Option Row) (all deepest : ℕ) (nodes : all ≡ min (all_nodes (formulas goal)) (2 ^ 64 - 1)) (levels : deepest ≡ min (greatest_depth (formulas goal)) (2 ^ 32 - 1)) where
+  abbrev rest : Table
+  rest answer = answer ≡ others
+
+  abbrev from_depth : Table
+  from_depth = when (MAX_LEVELS < greatest_depth (formulas goal)) TooDeep rest
+
+  abbrev from_nodes : Table
+  from_nodes = when (MAX_NODES < all_nodes (formulas goal)) TooManyNodes from_depth
+
+  abbrev from_count : Table
+  from_count = when (MAX_HYPOTHESES < held goal) TooManyHypotheses from_nodes
+
+  by_depth : from_depth (row_if (nat_lt MAX_LEVELS deepest) TooDeep others)
+  by_depth = row_above MAX_LEVELS (greatest_depth (formulas goal)) deepest TooDeep rest others (λ lt. omega (arith, lt, levels)) (λ lt. omega (arith, lt, levels)) refl
+
+  by_nodes : from_nodes (row_if (nat_lt MAX_NODES all) TooManyNodes (row_if (nat_lt MAX_LEVELS deepest) TooDeep others))
+  by_nodes = row_above MAX_NODES (all_nodes (formulas goal)) all TooManyNodes from_depth (row_if (nat_lt MAX_LEVELS deepest) TooDeep others) (λ lt. omega (arith, lt, nodes)) (λ lt. omega (arith, lt, nodes)) by_depth
+
+  pub large_rows : (vars count : ℕ) (result : Option Row) → vars ≡ length goal.vars → count ≡ held goal → result ≡ size_row vars count all deepest others → when_large goal rest result
+  large_rows vars count result variables counts is =
+      subst (when_large goal rest) (sym is)
+      (row_above MAX_VARIABLES (length goal.vars) vars TooManyVariables from_count _ (λ lt. omega (arith, lt, variables)) (λ lt. omega (arith, lt, variables))
+      (row_above MAX_HYPOTHESES (held goal) count TooManyHypotheses from_nodes _ (λ lt. omega (arith, lt, counts)) (λ lt. omega (arith, lt, counts)) by_nodes))
+
+-- ---- predicates and lemmas
 
 body_last : (qs : List Pred) (q : Pred) → body_of (qs ++ q ∷ []) (length qs) ≡ q.body
 body_last [] q = refl
@@ -61,7 +107,7 @@ module _ (s : State) (q : Pred) (name : List ℕ) (params : List (List ℕ)) whe
       (row_where (is_open s) ProofIsOpen named (when (IsTrue (is_used s name)) NameIsDefined guarded_table) (subst (λ (o : Option Row). when (IsTrue (is_used s name)) NameIsDefined (when (¬ CallsBelow (length s.preds) q.body) NotGuarded (when (MAX_PREDICATES ≤ length s.preds) TooManyPredicates (when (MAX_VARIABLES < length params) TooManyVariables tail))) o) (sym (n ∙ ap (λ b. row_if b NameIsDefined free) uses)) (row_where (is_used s name) NameIsDefined free guarded_table t7))))
 
 pub lemma_row_is : (s : State) (name : List ℕ) (statement : Formula) (open_proof used : Bool) (count all deepest : ℕ) (large many named result : Option Row)
-    → all ≡ min (nodes_of statement) (2 ^ 64 - 1) → deepest ≡ min (depth_of statement) (2 ^ 32 - 1) → open_proof ≡ is_open s → used ≡ is_used s name → count ≡ min (length s.lemmas) MAX_LEMMAS
+    → all ≡ min (nodes_of statement) (2 ^ 64 - 1) → deepest ≡ min (depth_of statement) (2 ^ 32 - 1) → open_proof ≡ is_open s → used ≡ is_used s name → count ≡ length s.lemmas
     → large ≡ size_row 0 0 all deepest None → many ≡ row_if (nat_le MAX_LEMMAS count) TooManyLemmas large → named ≡ row_if used NameIsDefined many → result ≡ row_if open_proof ProofIsOpen named
     → lemma_rows s name statement result
 lemma_row_is s name statement open_proof used count all deepest large many named result nodes levels opens uses counts w m n r =
@@ -71,3 +117,6 @@ lemma_row_is s name statement open_proof used count all deepest large many named
     subst (lemma_rows s name statement) (sym r)
     (subst (λ (b : Bool). lemma_rows s name statement (row_if b ProofIsOpen named)) (sym opens)
     (row_where (is_open s) ProofIsOpen named (when (IsTrue (is_used s name)) NameIsDefined (when (MAX_LEMMAS ≤ length s.lemmas) TooManyLemmas sizes)) (subst (λ (o : Option Row). when (IsTrue (is_used s name)) NameIsDefined (when (MAX_LEMMAS ≤ length s.lemmas) TooManyLemmas sizes) o) (sym (n ∙ ap (λ b. row_if b NameIsDefined many) uses)) (row_where (is_used s name) NameIsDefined many (when (MAX_LEMMAS ≤ length s.lemmas) TooManyLemmas sizes) t7))))
+
+pub lemmas_counted : (s : State) (lemmas : Lemmas) (count : ℕ) → count ≡ length lemmas.list → lemmas ≡ proved_lemmas s → count ≡ length s.lemmas
+lemmas_counted s lemmas count counts same = counts ∙ ap (λ (l : Lemmas). length l.list) same ∙ length-map s.lemmas stated

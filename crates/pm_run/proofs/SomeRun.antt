@@ -8,7 +8,6 @@ use Rattle.pm_logic.specs.declared.limits.TheConstants.{MAX_HYPOTHESES, MAX_LEMM
 use Rattle.pm_logic.specs.declared.formula.Formula.{Formula}
 use Rattle.pm_logic.specs.Guard.{CallsBelow}
 use Rattle.pm_logic.specs.Size.{nodes_of, depth_of}
-use Rattle.pm_goal.specs.declared.goal.Hyp.{Hyp}
 use Rattle.pm_goal.specs.declared.goal.Goal.{Goal}
 use Rattle.pm_terms.specs.declared.fault.TextFault.{TextFault}
 use Rattle.pm_terms.specs.declared.fault.TextFault.TheVariants.{Unexpected}
@@ -17,13 +16,13 @@ use Rattle.pm_script.specs.declared.sentence.Sentence.{Sentence}
 use Rattle.pm_script.specs.declared.sentence.Sentence.TheVariants as sentence
 use Rattle.pm_script.specs.SentenceReading.{read_sentence}
 use Rattle.pm_goal.specs.declared.refusal.Row.{Row}
-use Rattle.pm_goal.specs.declared.refusal.Row.TheVariants.{NoHypothesisToIntroduce, ImplicationOverSpatial, NoSuchHypothesis, NameInUse, NotTheConclusion, NoOpenProof, ProofIsOpen, GoalsRemain, NameIsDefined, NotGuarded, NoGoalInFocus, TooManyVariables, TooManyHypotheses, TooManyNodes, TooDeep, TooManyPredicates, TooManyLemmas}
+use Rattle.pm_goal.specs.declared.refusal.Row.TheVariants.{NoOpenProof, ProofIsOpen, GoalsRemain, NameIsDefined, NotGuarded, TooManyVariables, TooManyHypotheses, TooManyNodes, TooDeep, TooManyPredicates, TooManyLemmas}
 use Rattle.pm_goal.specs.Refusals.{refusal}
-use Rattle.pm_run.specs.Rows.{Table, when, no_row, always, formulas, all_nodes, greatest_depth, held, when_large}
-use Rattle.pm_run.specs.Steps.{Step, intro, exact, step_of, step_name, step_rows, sides_of, introduced, is_taken, IsBlocked, intro_rows, exact_rows, hyp_of}
-use Rattle.pm_run.specs.Runs.{OpenProof, State, start, is_open, is_used, scope, opening, Answer, moves, refuses, unbuilt, answer_of, Answers, predicate_rows, with_predicate, lemma_rows, opened, proof_rows, qed_rows, qed_state, goal_rows, directive_rows, directive_state, Directs, Does, Outcome, accepted, refused, unreadable, RunsFrom, does_not_read, is_unbuilt, is_refused, goes_on, is_cut_off, ends_inside, ends}
+use Rattle.pm_table.specs.Limits.{formulas, all_nodes, greatest_depth}
+use Rattle.pm_run.specs.Rows.{Table, when, no_row, always, held, when_large}
+use Rattle.pm_run.specs.Runs.{OpenProof, State, start, is_open, is_used, scope, opening, Answer, moves, refuses, unbuilt, answer_of, Answers, predicate_rows, with_predicate, lemma_rows, opened, proof_rows, qed_rows, qed_state, directed, Does, Outcome, accepted, refused, unreadable, RunsFrom, does_not_read, is_unbuilt, is_refused, goes_on, is_cut_off, ends_inside, ends}
 use Rattle.pm_run.specs.Coming.{RunsAreTotal}
-use Rattle.pm_run.proofs.Decisions.{decides_true, decides_three, decides_le, decides_empty, decides_same, decides_below, decides_persistent}
+use Rattle.pm_run.proofs.Decisions.{decides_true, decides_le, decides_empty, decides_below}
 
 -- ---- each table answers
 
@@ -68,33 +67,6 @@ qed_answers : (p : Option OpenProof) → HasAnswer (qed_rows p)
 qed_answers None = always_answers NoOpenProof
 qed_answers (Some p) = let empty = decides_empty p.goals in when_not (p.goals ≡ []) GoalsRemain no_row empty.0 empty.1 no_row_answers
 
-blocked_answers : (goal : Goal) (implies : Bool) (a : Formula) (others : Table) → HasAnswer others → HasAnswer (when (IsBlocked implies a goal.spats) ImplicationOverSpatial others)
-blocked_answers goal implies a others h =
-    let empty = decides_empty goal.spats in
-    when_answers (IsBlocked implies a goal.spats) ImplicationOverSpatial others _
-    (decides_three implies _ _ (decides_true implies) (Decides-not _ (decides_persistent a)) (Decides-not empty.0 empty.1)) h
-
-intro_answers : (goal : Goal) (name : List ℕ) (sides : Option (Bool × Formula × Formula)) → HasAnswer (intro_rows goal name sides)
-intro_answers goal name None = always_answers NoHypothesisToIntroduce
-intro_answers goal name (Some (implies, a, b)) =
-    blocked_answers goal implies a _ (large_answers (introduced goal name a b) _ (when_true (is_taken goal name) NameInUse no_row no_row_answers))
-
-exact_answers : (goal : Goal) (name : List ℕ) (h : Option Hyp) → HasAnswer (exact_rows goal name h)
-exact_answers goal name None = always_answers NoSuchHypothesis
-exact_answers goal name (Some h) = when_not (h.formula ≡ goal.concl) NotTheConclusion no_row _ (decides_same h.formula goal.concl) no_row_answers
-
-step_answers : (goal : Goal) (d : Step) → HasAnswer (step_rows goal d)
-step_answers goal (intro x) = intro_answers goal x (sides_of goal.concl)
-step_answers goal (exact x) = exact_answers goal x (hyp_of goal x)
-
-goal_answers : (gs : List Goal) (d : Step) → HasAnswer (goal_rows gs d)
-goal_answers [] d = always_answers NoGoalInFocus
-goal_answers (g ∷ gs) d = step_answers g d
-
-directive_answers : (p : Option OpenProof) (d : Step) → HasAnswer (directive_rows p d)
-directive_answers None d = always_answers NoOpenProof
-directive_answers (Some p) d = goal_answers p.goals d
-
 -- ---- each sentence does something
 
 abbrev DoesSome : State → Sentence → Type 0
@@ -103,17 +75,13 @@ DoesSome s x = (a : Answer) × Does s x a
 answered : (name : List ℕ) (table : Table) (new : State) → HasAnswer table → (a : Answer) × Answers name table new a
 answered name table new h = (answer_of name new h.0, (h.0, h.1, refl))
 
-directed : (s : State) (d : Option Step) → (a : Answer) × Directs s d a
-directed s None = (unbuilt, refl)
-directed s (Some d) = answered (step_name d) (directive_rows s.proof d) (directive_state s s.proof d) (directive_answers s.proof d)
-
 does_some : (s : State) (x : Sentence) → DoesSome s x
 unfolding Does
 does_some s (sentence.Predicate name params body) = answered name (predicate_rows s name params body) (with_predicate s name params body) (predicate_answers s name params body)
 does_some s (sentence.Lemma name f) = answered name (lemma_rows s name f) (opened s name f) (lemma_answers s name f)
 does_some s sentence.Proof = answered [] (proof_rows s) s (when_not (IsTrue (is_open s)) NoOpenProof no_row (is_open s) (decides_true (is_open s)) no_row_answers)
 does_some s sentence.Qed = answered [] (qed_rows s.proof) (qed_state s s.proof) (qed_answers s.proof)
-does_some s (sentence.Directive d) = directed s (step_of d)
+does_some s (sentence.Directive d) = (directed s d, refl)
 does_some s x = (unbuilt, refl)
 
 -- ---- a run comes to something

@@ -1,12 +1,13 @@
 -- What a running script keeps, against the state of its run.
-use Rattle.std.specs.Prelude.{◌≡◌, ℕ, ◌+◌, ◌-◌, ◌^◌, min, ◌≤◌, Bool, false, IsTrue, is_some, List, [], ◌∷◌, ◌++◌, length, map, reverse, Option, Some, None, Result, Ok, Err, option_map}
+use Rattle.std.specs.Prelude.{◌≡◌, ℕ, ◌+◌, ◌-◌, ◌^◌, min, ◌≤◌, Bool, false, IsTrue, is_some, List, [], ◌∷◌, ◌++◌, drop, length, map, reverse, Option, Some, None, Result, Ok, Err, option_map}
 use Rattle.std.specs.List.{AllByRecursion}
-use Rattle.pm_logic.specs.declared.limits.TheConstants.{MAX_LEMMAS, MAX_LEVELS, MAX_LINE_LEVELS, MAX_LINE_VARIABLES}
+use Rattle.pm_logic.specs.declared.limits.TheConstants.{MAX_LEVELS, MAX_LINE_LEVELS, MAX_LINE_VARIABLES}
 use Rattle.pm_logic.specs.declared.formula.Formula.{Formula}
 use Rattle.pm_logic.specs.declared.formula.Pred.{Pred}
 use Rattle.pm_logic.specs.declared.formula.Preds.{Preds}
 use Rattle.pm_rules.specs.declared.rules.Entail.{Entail}
 use Rattle.pm_goal.specs.declared.goal.Goal.{Goal}
+use Rattle.pm_goal.specs.declared.work.Lemmas.{Lemmas}
 use Rattle.pm_logic.specs.Size.{nodes_of, depth_of}
 use Rattle.pm_names.specs.Names.{is_name}
 use Rattle.pm_terms.specs.Scope.{Names}
@@ -16,32 +17,41 @@ use Rattle.pm_name_sets.specs.Sets.{has, Adds}
 use Rattle.pm_check.specs.Table.{BeginsTable}
 use Rattle.pm_proof.specs.declared.joining.Step.{Step as ProofStep}
 use Rattle.pm_proof.specs.Trees.{Tree, depth, variables}
-use Rattle.pm_proof.specs.Valid.{Valid, EntailScoped, IsScoped}
+use Rattle.pm_proof.specs.declared.proof.Parts.{Parts}
+use Rattle.pm_proof.specs.Valid.{TermFits, Valid, IsScoped}
 use Rattle.pm_proof.specs.Known.{Tables, From, IsAmong}
 use Rattle.pm_proof.specs.Joins.{Leads, lemmas_of, Joins}
 use Rattle.pm_write.specs.declared.writing.Named.{Named}
 use Rattle.pm_write.specs.Derived.{statement_of, conclusions, IsOneOf, AreWritable}
+use Rattle.pm_script.specs.declared.directive.Directive.{Directive}
+use Rattle.pm_script.specs.declared.directive.Directive.TheVariants as directive
 use Rattle.pm_script.specs.declared.sentence.Sentence.{Sentence}
 use Rattle.pm_script.specs.declared.sentence.Sentence.TheVariants as sentence
 use Rattle.pm_script.specs.Stating.{stated_of}
 use Rattle.pm_goal.specs.declared.refusal.Row.{Row}
+use Rattle.pm_goal.specs.declared.refusal.Row.TheVariants.{NoGoalInFocus}
+use Rattle.pm_goal.specs.declared.refusal.StepFault.{StepFault}
+use Rattle.pm_goal.specs.declared.refusal.StepFault.TheVariants as fault
 use Rattle.pm_goal.specs.declared.refusal.Refusal.{Refusal}
 use Rattle.pm_goal.specs.Refusals.{refusal}
+use Rattle.pm_table.specs.Limits.{resting}
+use Rattle.pm_table.specs.Scopes.{IsWorkScoped}
+use Rattle.pm_sweep.specs.Standing.{IsFit, IsSoundWork}
+use Rattle.pm_directives.specs.Steps.{FitsGoal, Steps}
 use Rattle.pm_run.specs.Rows.{Table}
 use Rattle.pm_run.specs.declared.proof.Proof.{Proof}
 use Rattle.pm_run.specs.declared.running.Running.{Running}
 use Rattle.pm_run.specs.declared.running.Done.{Done}
 use Rattle.pm_run.specs.declared.running.Done.TheVariants as done
-use Rattle.pm_run.specs.Stepping.{meaning, IsWithin, Shows}
-use Rattle.pm_run.specs.Steps.{Step, step_name, step_goals}
-use Rattle.pm_run.specs.Runs.{OpenProof, State, Answer, moves, refuses, unbuilt, Does, is_open, is_used, scope_by, opening, predicate_rows, with_predicate, lemma_rows, opened, proof_rows, qed_rows, qed_state, directive_rows, directive_state, new_goals}
+use Rattle.pm_run.specs.Within.{meaning, IsWithin}
+use Rattle.pm_run.specs.Runs.{OpenProof, State, Answer, moves, refuses, unbuilt, Does, is_open, is_used, scope_by, opening, table, proved_lemmas, predicate_rows, with_predicate, lemma_rows, opened, proof_rows, qed_rows, qed_state, step_open, directed}
 
 -- ---- what is kept of an open proof, of which each table that comes has more predicates at its end, and these lemmas are proved
 
 -- a goal that is left
 pub record IsLeft (on : Tables) (goal : Goal) : Type 0 where
-  pub within : IsWithin goal
-  pub scoped : (preds : Preds) → IsAmong on preds → EntailScoped preds (meaning goal)
+  pub fit : IsFit (resting goal)
+  pub scoped : (preds : Preds) → IsAmong on preds → IsWorkScoped preds (resting goal)
 
 -- a step that was done: it uses no lemma but proved ones
 pub record IsSafe (on : Tables) (known : List Entail) (s : ProofStep) : Type 0 where
@@ -68,9 +78,6 @@ KeepsProofs on known (Some p) None = ⊥
 
 -- ---- states that a script can lead to
 
-abbrev pub table : State → Preds
-table s = record { list = s.preds }
-
 -- that of the state, and each that has more predicates at its end
 abbrev pub tables : State → Tables
 tables s = From (table s)
@@ -92,7 +99,7 @@ pub record IsSound (s : State) : Type 0 where
 pub record Keeps (r : Running) (s : State) : Type 0 where
   pub preds_are : r.preds.list ≡ s.preds
   pub names_are : (name : List ℕ) → has r.names name ≡ is_used s name
-  pub lemmas_are : r.lemmas ≡ min (length s.lemmas) MAX_LEMMAS
+  pub lemmas_are : r.lemmas ≡ proved_lemmas s
   pub states : map statement_of r.proofs ≡ s.lemmas
   pub writable : (preds : Preds) → IsAmong (tables s) preds → AreWritable preds r.proofs
   pub proof_is : KeepsProofs (tables s) (conclusions r.proofs) r.proof s.proof
@@ -105,6 +112,16 @@ abbrev pub IsSayable : State → Sentence → Type 0
 IsSayable s (sentence.Predicate name params body) = IsTrue (is_name name) × InRange (arities_of s.preds ++ (length params ∷ [])) (length params) body × (depth_of body ≤ MAX_LEVELS)
 IsSayable s (sentence.Lemma name statement) = IsTrue (is_name name) × InRange (arities_of s.preds) 0 statement × (depth_of statement ≤ MAX_LEVELS)
 IsSayable s x = Unit {0}
+
+-- the terms of a directive fit k variables
+abbrev pub TermsFit : ℕ → Directive → Type 0
+TermsFit k (directive.Exists ts) = AllByRecursion (TermFits k) ts
+TermsFit k _ = Unit {0}
+
+-- those of a directive fit the goal that it is for
+abbrev pub FitsFirst : Directive → List Goal → Type 0
+FitsFirst x [] = Unit {0}
+FitsFirst x (g ∷ gs) = FitsGoal x g
 
 -- ---- what the code of a sentence answers, behind the table's rows
 
@@ -137,7 +154,15 @@ open_of p = record { name = p.name; statement = p.statement; goals = reverse p.g
 abbrev pub scope_of : Running → Names
 scope_of r = scope_by (option_map open_of r.proof)
 
+-- the terms of a sentence fit the variables in scope
+abbrev pub IsHanded : Running → Sentence → Type 0
+IsHanded r (sentence.Directive x) = TermsFit (length (scope_of r)) x
+IsHanded r x = Unit {0}
+
 -- ---- an open proof
+
+abbrev pub AreSound : List Goal → Type 0
+AreSound goals = AllByRecursion (λ g. IsSoundWork (resting g)) goals
 
 abbrev pub AreWithin : List Goal → Type 0
 AreWithin goals = AllByRecursion IsWithin goals
@@ -149,18 +174,22 @@ pub record IsBegun (name : List ℕ) (statement : Formula) (p : Proof) : Type 0 
   pub steps_are : p.steps.items ≡ []
   pub goals_are : p.goals ≡ opening statement ∷ []
 
--- one step more, on the first goal: it uses no lemma
-pub record IsStepped (old : Proof) (d : Step) (new : Proof) : Type 0 where
+abbrev pub IsRefused : Refusal → Result (Parts Goal) StepFault → Type 0
+IsRefused r (Ok parts) = ⊥
+IsRefused r (Err (fault.Refused x)) = x ≡ r
+IsRefused r (Err fault.Memory) = Unit {0}
+
+-- what the code of a step of the first goal answers
+unfoldable pub StepsFirst : Preds → Lemmas → List Goal → Directive → Result (Parts Goal) StepFault → Type 0
+StepsFirst preds lemmas [] x result = IsRefused (refusal NoGoalInFocus []) result
+StepsFirst preds lemmas (g ∷ gs) x result = Steps preds lemmas g x result
+
+-- these goals in the first one's place, and one step more, which uses no lemma
+pub record IsStepped (old : Proof) (parts : Parts Goal) (new : Proof) : Type 0 where
   pub name_is : new.name ≡ old.name
   pub statement_is : new.statement ≡ old.statement
-  pub goals_are : reverse new.goals ≡ new_goals (reverse old.goals) d
-  pub step : ProofStep
-  pub steps_are : new.steps.items ≡ old.steps.items ++ step ∷ []
-  pub goal : Goal
-  pub rest : List Goal
-  pub first_is : reverse old.goals ≡ goal ∷ rest
-  pub count_is : step.goals ≡ length (step_goals goal d)
-  pub shows : Shows goal (map meaning (step_goals goal d)) step.proof
+  pub goals_are : reverse new.goals ≡ parts.goals ++ drop 1 (reverse old.goals)
+  pub steps_are : new.steps.items ≡ old.steps.items ++ record { proof = parts.proof; goals = length parts.goals } ∷ []
 
 -- the lemma of a proof whose steps lead to no goal is kept
 pub record IsProved (old : Running) (p : Proof) (new : Running) : Type 0 where
@@ -168,7 +197,7 @@ pub record IsProved (old : Running) (p : Proof) (new : Running) : Type 0 where
   pub joins : Joins p.steps.items proof
   pub preds_are : new.preds ≡ old.preds
   pub names_are : Adds old.names new.names p.name
-  pub lemmas_are : new.lemmas ≡ min (min (old.lemmas + 1) (2 ^ 64 - 1)) MAX_LEMMAS
+  pub lemmas_are : new.lemmas.list ≡ old.lemmas.list ++ record { name = p.name; formula = p.statement } ∷ []
   pub proofs_are : new.proofs ≡ old.proofs ++ record { name = p.name; proof = proof } ∷ []
   pub proof_is : new.proof ≡ old.proof
 
@@ -188,7 +217,7 @@ UsesLastName old new = (before : List Pred) (last : Pred) → old.preds.list ≡
 
 -- of a lemma
 abbrev pub LemmaRow : Running → Bool → (all deepest : ℕ) → Option Row → Type 0
-LemmaRow r used all deepest row = (s : State) (name : List ℕ) (statement : Formula) → all ≡ min (nodes_of statement) (2 ^ 64 - 1) → deepest ≡ min (depth_of statement) (2 ^ 32 - 1) → is_some r.proof ≡ is_open s → used ≡ is_used s name → r.lemmas ≡ min (length s.lemmas) MAX_LEMMAS → lemma_rows s name statement row
+LemmaRow r used all deepest row = (s : State) (name : List ℕ) (statement : Formula) → all ≡ min (nodes_of statement) (2 ^ 64 - 1) → deepest ≡ min (depth_of statement) (2 ^ 32 - 1) → is_some r.proof ≡ is_open s → used ≡ is_used s name → r.lemmas ≡ proved_lemmas s → lemma_rows s name statement row
 
 -- ---- what the code of each sentence answers, whatever state is kept
 
@@ -204,12 +233,12 @@ Begins old new d = (s : State) → Keeps old s → IsAnswered [] (proof_rows s) 
 abbrev pub Closes : Running → Running → Done → Type 0
 Closes old new d = (s : State) → Keeps old s → IsAnswered [] (qed_rows s.proof) (qed_state s s.proof) old new d
 
-abbrev pub Directs : Running → Step → Running → Done → Type 0
-Directs old d new done = (s : State) → Keeps old s → IsAnswered (step_name d) (directive_rows s.proof d) (directive_state s s.proof d) old new done
+-- of a directive that is built
+abbrev pub Directs : Running → Directive → Running → Done → Type 0
+Directs old x new d = (s : State) → Keeps old s → IsDone old new (step_open s s.proof x) d
 
-abbrev pub DirectsIf : Running → Option Step → Running → Done → Type 0
-DirectsIf old None new d = (d ≡ done.Unbuilt) × (new ≡ old)
-DirectsIf old (Some step) new d = Directs old step new d
+abbrev pub DirectsIf : Running → Directive → Running → Done → Type 0
+DirectsIf old x new d = (s : State) → Keeps old s → IsDone old new (directed s x) d
 
 -- ---- whole sentences
 

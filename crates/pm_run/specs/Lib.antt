@@ -1,10 +1,7 @@
-pub mod Arrows
-pub mod Boxes
 pub mod Coming
 pub mod Keeping
 pub mod Rows
 pub mod Runs
-pub mod Stepping
-pub mod Steps
+pub mod Within
 pub mod Looping
 pub mod Halting

@@ -1,12 +1,10 @@
 -- Tables of rows: the first whose condition holds is the answer.
-use Rattle.std.specs.Prelude.{◌≡◌, ◌⊎◌, ℕ, ◌+◌, ◌<◌, ◌≤◌, Bool, true, false, if◌then◌else◌, List, [], ◌∷◌, ◌++◌, length, Option, Some, None, max, nat_lt}
+use Rattle.std.specs.Prelude.{◌≡◌, ◌⊎◌, ℕ, ◌+◌, ◌<◌, Bool, if◌then◌else◌, length, Option, Some, None, nat_lt}
 use Rattle.pm_logic.specs.declared.limits.TheConstants.{MAX_HYPOTHESES, MAX_LEVELS, MAX_NODES, MAX_VARIABLES}
-use Rattle.pm_logic.specs.declared.formula.Formula.{Formula}
-use Rattle.pm_logic.specs.Size.{nodes_of, depth_of}
 use Rattle.pm_goal.specs.declared.goal.Goal.{Goal}
-use Rattle.pm_goal.specs.Left.{facts, hyps}
 use Rattle.pm_goal.specs.declared.refusal.Row.{Row}
 use Rattle.pm_goal.specs.declared.refusal.Row.TheVariants.{TooManyVariables, TooManyHypotheses, TooManyNodes, TooDeep}
+use Rattle.pm_table.specs.Limits.{formulas, all_nodes, greatest_depth}
 
 -- what a table answers: a row, or none
 abbrev pub Table : Type 1
@@ -30,22 +28,6 @@ always row answer = answer ≡ Some row
 -- the row for so many variables and hypotheses, of so many nodes with the conclusion and so deep, and else what others answer
 abbrev pub size_row : (vars count all deepest : ℕ) → Option Row → Option Row
 size_row vars count all deepest others = row_if (nat_lt MAX_VARIABLES vars) TooManyVariables (row_if (nat_lt MAX_HYPOTHESES count) TooManyHypotheses (row_if (nat_lt MAX_NODES all) TooManyNodes (row_if (nat_lt MAX_LEVELS deepest) TooDeep others)))
-
--- the formulas of a goal's contexts
-abbrev pub contexts : Goal → List Formula
-contexts goal = facts goal.pures ++ (hyps goal.ints ++ hyps goal.spats)
-
--- the formulas of a goal
-abbrev pub formulas : Goal → List Formula
-formulas goal = facts goal.pures ++ (hyps goal.ints ++ (hyps goal.spats ++ (goal.concl ∷ [])))
-
-abbrev pub all_nodes : List Formula → ℕ
-all_nodes [] = 0
-all_nodes (f ∷ fs) = nodes_of f + all_nodes fs
-
-abbrev pub greatest_depth : List Formula → ℕ
-greatest_depth [] = 0
-greatest_depth (f ∷ fs) = max (depth_of f) (greatest_depth fs)
 
 -- hypotheses and facts
 abbrev pub held : Goal → ℕ

@@ -1,18 +1,22 @@
 -- Runs of scripts: what each sentence does, and what a run comes to.
-use Rattle.std.specs.Prelude.{◌≡◌, ℕ, ◌+◌, ◌<◌, ◌≤◌, Bool, true, false, ◌||◌, is_some, IsTrue, List, [], ◌∷◌, ◌++◌, length, reverse, Option, Some, None, Ok, Err}
+use Rattle.std.specs.Prelude.{◌≡◌, ℕ, ◌+◌, ◌<◌, ◌≤◌, Bool, true, false, ◌||◌, if◌then◌else◌, is_some, IsTrue, List, [], ◌∷◌, ◌++◌, length, map, reverse, Option, Some, None, Ok, Err}
 use Rattle.std.specs.List.{list_any}
 use Rattle.std.specs.Str.{bytes_eq}
 use Rattle.pm_logic.specs.declared.limits.TheConstants.{MAX_LEMMAS, MAX_LEVELS, MAX_NODES, MAX_PREDICATES, MAX_VARIABLES}
 use Rattle.pm_logic.specs.declared.formula.Formula.{Formula}
 use Rattle.pm_logic.specs.declared.formula.Pred.{Pred}
+use Rattle.pm_logic.specs.declared.formula.Preds.{Preds}
 use Rattle.pm_logic.specs.Guard.{CallsBelow}
 use Rattle.pm_logic.specs.Size.{nodes_of, depth_of}
 use Rattle.pm_check.specs.declared.checked.Statement.{Statement}
 use Rattle.pm_goal.specs.declared.goal.Goal.{Goal}
+use Rattle.pm_goal.specs.declared.work.Lemma.{Lemma}
+use Rattle.pm_goal.specs.declared.work.Lemmas.{Lemmas}
 use Rattle.pm_terms.specs.declared.fault.TextFault.{TextFault}
 use Rattle.pm_terms.specs.declared.fault.TextFault.TheVariants.{Unexpected}
 use Rattle.pm_terms.specs.Scope.{Names}
 use Rattle.pm_cutter.specs.Cutting.{Part, cut, rest_of}
+use Rattle.pm_script.specs.declared.directive.Directive.{Directive}
 use Rattle.pm_script.specs.declared.sentence.Sentence.{Sentence}
 use Rattle.pm_script.specs.declared.sentence.Sentence.TheVariants as sentence
 use Rattle.pm_script.specs.SentenceReading.{read_sentence}
@@ -20,8 +24,10 @@ use Rattle.pm_goal.specs.declared.refusal.Row.{Row}
 use Rattle.pm_goal.specs.declared.refusal.Row.TheVariants.{NoOpenProof, ProofIsOpen, GoalsRemain, NameIsDefined, NotGuarded, NoGoalInFocus, TooManyVariables, TooManyNodes, TooDeep, TooManyPredicates, TooManyLemmas}
 use Rattle.pm_goal.specs.declared.refusal.Refusal.{Refusal}
 use Rattle.pm_goal.specs.Refusals.{refusal}
+use Rattle.pm_table.specs.Directives.{Stepped, step}
+use Rattle.pm_table.specs.Directives as steps
+use Rattle.pm_directives.specs.Built.{is_built}
 use Rattle.pm_run.specs.Rows.{Table, when, no_row, always, when_large}
-use Rattle.pm_run.specs.Steps.{Step, step_of, step_name, step_rows, step_goals}
 
 -- ---- states
 
@@ -121,33 +127,48 @@ abbrev pub qed_state : State → Option OpenProof → State
 qed_state s None = s
 qed_state s (Some p) = proved s p
 
-abbrev pub goal_rows : List Goal → Step → Table
-goal_rows [] step = always NoGoalInFocus
-goal_rows (g ∷ gs) step = step_rows g step
+-- ---- directives
 
-abbrev pub directive_rows : Option OpenProof → Step → Table
-directive_rows None step = always NoOpenProof
-directive_rows (Some p) step = goal_rows p.goals step
+-- the table of the state
+abbrev pub table : State → Preds
+table s = record { list = s.preds }
 
--- the first goal is replaced
-abbrev pub new_goals : List Goal → Step → List Goal
-new_goals [] step = []
-new_goals (g ∷ gs) step = step_goals g step ++ gs
+abbrev pub stated : Statement → Lemma
+stated l = record { name = l.name; formula = l.formula }
 
-abbrev pub directive_state : State → Option OpenProof → Step → State
-directive_state s None step = s
-directive_state s (Some p) step = with_proof s (Some (record p { goals = new_goals p.goals step }))
+-- the proved lemmas, in order
+abbrev pub proved_lemmas : State → Lemmas
+proved_lemmas s = record { list = map stated s.lemmas }
 
-abbrev pub Directs : State → Option Step → Answer → Type 0
-Directs s None answer = answer ≡ unbuilt
-Directs s (Some step) answer = Answers (step_name step) (directive_rows s.proof step) (directive_state s s.proof step) answer
+-- the goals that come in the first one's place stand before the others
+abbrev pub beside : Stepped → List Goal → Stepped
+beside (steps.goals new) others = steps.goals (new ++ others)
+beside (steps.refused r) others = steps.refused r
+
+-- a step of the first goal
+unfoldable pub step_first : Preds → Lemmas → List Goal → Directive → Stepped
+step_first preds lemmas [] d = steps.refused (refusal NoGoalInFocus [])
+step_first preds lemmas (g ∷ gs) d = beside (step preds lemmas g d) gs
+
+abbrev pub answer_to : State → OpenProof → Stepped → Answer
+answer_to s p (steps.goals gs) = moves (with_proof s (Some (record p { goals = gs })))
+answer_to s p (steps.refused r) = refuses r
+
+abbrev pub step_open : State → Option OpenProof → Directive → Answer
+step_open s None d = refuses (refusal NoOpenProof [])
+step_open s (Some p) d = answer_to s p (step_first (table s) (proved_lemmas s) p.goals d)
+
+abbrev pub directed : State → Directive → Answer
+directed s d = if is_built d then step_open s s.proof d else unbuilt
+
+-- ---- sentences
 
 unfoldable pub Does : State → Sentence → Answer → Type 0
 Does s (sentence.Predicate name params body) answer = Answers name (predicate_rows s name params body) (with_predicate s name params body) answer
 Does s (sentence.Lemma name statement) answer = Answers name (lemma_rows s name statement) (opened s name statement) answer
 Does s sentence.Proof answer = Answers [] (proof_rows s) s answer
 Does s sentence.Qed answer = Answers [] (qed_rows s.proof) (qed_state s s.proof) answer
-Does s (sentence.Directive d) answer = Directs s (step_of d) answer
+Does s (sentence.Directive d) answer = answer ≡ directed s d
 Does s x answer = answer ≡ unbuilt
 
 -- ---- runs

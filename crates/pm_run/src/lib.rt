@@ -1,10 +1,6 @@
 //! Runs of scripts: sentence by sentence, up to a derivation of the lemmas that they prove.
 #![tactic(auto)]
 
-mod arrows;
-mod boxes;
-mod boxing;
-mod goals;
 mod halted;
 mod laws;
 mod proof;
@@ -12,7 +8,6 @@ mod ran;
 mod rows;
 mod running;
 mod script;
-mod step;
 mod stop;
 
 pub use halted::{Halted, halt_script};

@@ -1,16 +1,14 @@
 //! The proof that is open.
 
-ghost use Rattle.std.specs.Prelude.{◌≡◌, None, IfOk, OnOk, reverse, ◌++◌};
-ghost use Rattle.pm_run.specs.Runs.{goal_rows};
-ghost use Rattle.pm_run.specs.Stepping.{step_view};
-ghost use Rattle.pm_run.specs.Keeping.{AreWithin, IsStepped};
+ghost use Rattle.std.specs.Prelude.{◌≡◌, IfOk, OnOk, reverse, ◌++◌};
+ghost use Rattle.pm_directives.specs.Built.{IsBuilt};
+ghost use Rattle.pm_run.specs.Keeping.{AreSound, FitsFirst, StepsFirst, IsStepped};
 
-use crate::goals::step_parts;
-use crate::rows::step_row;
-use crate::step::Step;
-use pm_goal::{Goal, Row};
-use pm_logic::{Formula, List, Memory, Name};
+use pm_directives::step;
+use pm_goal::{Goal, Lemmas, Refusal, Row, StepFault};
+use pm_logic::{Formula, List, Memory, Name, Preds};
 use pm_proof::Parts;
+use pm_script::Directive;
 use std::alloc::Global;
 
 /// The lemma whose proof is open, the steps that were done, and the goals that are left.
@@ -36,22 +34,33 @@ pub fn add_goals(goals: &mut List<Goal>, more: List<Goal>) -> Result<(), Memory>
 }
 
 impl Proof {
-    /// The row that refuses the directive where the proof is so far, if one does. The error is want of memory.
-    pub fn row(&self, alloc: Global, step: Step) -> Result<Option<Row>, Memory>
-        requires { AreWithin (reverse self.now.goals) }
-        ensures { IfOk result (goal_rows (reverse self.now.goals) (step_view step.entry)) }
+    /// What the directive makes of the first goal that is left, with a proof of it from what it makes; or the refusal, which
+    /// is that no goal is left where none is, or want of memory.
+    pub fn first_step(
+        &self,
+        alloc: Global,
+        preds: &Preds,
+        lemmas: &Lemmas,
+        directive: &Directive,
+    ) -> Result<Parts<Goal>, StepFault>
+        requires built { IsBuilt directive.now }
+        requires sound { AreSound (reverse self.now.goals) }
+        requires handed { FitsFirst directive.now (reverse self.now.goals) }
+        ensures { StepsFirst preds.now lemmas.now (reverse self.now.goals) directive.now result }
     {
         match self.goals.as_slice().last() {
-            Some(goal) => step_row(alloc, goal, step),
-            None => Ok(Some(Row::NoGoalInFocus)),
+            Some(goal) => step(alloc, preds, lemmas, goal, directive),
+            None => Err(StepFault::Refused(Refusal {
+                row: Row::NoGoalInFocus,
+                name: None,
+            })),
         }
     }
 
-    /// Does a directive that no row refuses. The error is want of memory.
-    pub fn stepped(self, alloc: Global, step: Step) -> Result<Proof, Memory>
-        requires within { AreWithin (reverse self.goals) }
-        requires no_row { goal_rows (reverse self.goals) (step_view step) None }
-        ensures { IfOk result (IsStepped self (step_view step.entry)) }
+    /// The proof with these goals in the place of the first one, which a step more proves from them. The error is want of
+    /// memory.
+    pub fn stepped(self, parts: Parts<Goal>) -> Result<Proof, Memory>
+        ensures { IfOk result (IsStepped self parts) }
     {
         let Proof {
             name,
@@ -59,25 +68,21 @@ impl Proof {
             steps,
             goals,
         } = self;
+        let Parts { goals: more, proof } = parts;
         let mut steps = steps;
         let mut goals = goals;
-        match goals.pop() {
-            Some(goal) => {
-                let Parts { goals: more, proof } = step_parts(alloc, goal, step)?;
-                let count = more.len() as u64;
-                steps.push(pm_proof::Step {
-                    proof,
-                    goals: count,
-                })?;
-                add_goals(&mut goals, more)?;
-                Ok(Proof {
-                    name,
-                    statement,
-                    steps,
-                    goals,
-                })
-            }
-            None => unreachable!(),
-        }
+        goals.pop();
+        let count = more.len() as u64;
+        steps.push(pm_proof::Step {
+            proof,
+            goals: count,
+        })?;
+        add_goals(&mut goals, more)?;
+        Ok(Proof {
+            name,
+            statement,
+            steps,
+            goals,
+        })
     }
 }

@@ -3,16 +3,16 @@
 ghost use Rattle.std.specs.Prelude.{◌≡◌, ◌≤◌, ◌<◌, ◌^◌, not, IfOk, OnOk, IsTrue, length, is_some};
 ghost use Rattle.pm_name_sets.specs.Sets.{has};
 ghost use Rattle.pm_goal.specs.Refusals.{refusal};
+ghost use Rattle.pm_goal.specs.declared.refusal.StepFault.TheVariants.{Refused};
 ghost use Rattle.pm_proof.specs.Joins.{IsComplete};
 ghost use Rattle.pm_run.specs.Runs.{start, opening};
-ghost use Rattle.pm_run.specs.Stepping.{step_view};
-ghost use Rattle.pm_run.specs.Steps.{step_of};
-ghost use Rattle.pm_run.specs.Keeping.{Keeps, IsKept, TakesBack, UsesLastName, PredicateRow, LemmaRow, AddsPredicate, Opens, Begins, IsBegun, IsProved, Closes, Directs, DirectsIf, StatesNothing, DoesSentence};
+ghost use Rattle.pm_directives.specs.Built.{IsBuilt};
+ghost use Rattle.pm_run.specs.Keeping.{Keeps, IsKept, scope_of, TermsFit, IsHanded, TakesBack, UsesLastName, PredicateRow, LemmaRow, AddsPredicate, Opens, Begins, IsBegun, IsProved, Closes, Directs, DirectsIf, StatesNothing, DoesSentence};
 
 use crate::proof::Proof;
 use crate::rows::{row_if, size_row};
-use crate::step::{Step, step_of};
-use pm_goal::{Ctx, Facts, Goal, Refusal, Row};
+use pm_directives::is_built;
+use pm_goal::{Ctx, Facts, Goal, Lemma, Lemmas, Refusal, Row, StepFault};
 use pm_logic::{
     Formula, List, MAX_LEMMAS, MAX_LEVELS, MAX_NODES, MAX_PREDICATES, MAX_VARIABLES, Memory, Name,
     Pred, Preds, copy, copy_name, depth, guarded, nodes,
@@ -29,9 +29,9 @@ pub struct Running {
     pub preds: Preds,
     /// The names of predicates and proved lemmas.
     pub names: NameSet,
-    /// How many lemmas are proved, up to those that may be.
-    pub lemmas: usize,
-    /// The proved lemmas, in order, with proofs of them.
+    /// The proved lemmas, in order.
+    pub lemmas: Lemmas,
+    /// Proofs of them.
     pub proofs: List<Named>,
     pub proof: Option<Proof>,
 }
@@ -58,15 +58,31 @@ fn refused(row: Row, name: Name) -> Done
     }
 }
 
-/// A refusal by this row of a directive about this name.
-fn directive_refused(alloc: Global, row: Row, name: &Name) -> Result<Done, Memory>
-    ensures { IfOk result (λ d. d ≡ Done.Refused (refusal row name.now)) }
+fn copy_refusal(alloc: Global, refusal: &Refusal) -> Result<Refusal, Memory>
+    ensures { IfOk result (λ copy. copy ≡ refusal.now) }
 {
-    if row.gives_name() {
-        let name = Some(copy_name(alloc, name)?);
-        Ok(Done::Refused(Refusal { row, name }))
-    } else {
-        Ok(Done::Refused(Refusal { row, name: None }))
+    match &refusal.name {
+        Some(name) => {
+            let name = Some(copy_name(alloc, name)?);
+            Ok(Refusal {
+                row: refusal.row,
+                name,
+            })
+        }
+        None => Ok(Refusal {
+            row: refusal.row,
+            name: None,
+        }),
+    }
+}
+
+/// The refusal of a step that gives no goals. The error is want of memory, also where that is why it gives none.
+fn refusal_of(alloc: Global, fault: &StepFault) -> Result<Refusal, Memory>
+    ensures { IfOk result (λ refusal. fault.now ≡ Refused refusal) }
+{
+    match fault {
+        StepFault::Refused(refusal) => copy_refusal(alloc, refusal),
+        StepFault::Memory => Err(Memory),
     }
 }
 
@@ -108,7 +124,9 @@ impl Running {
                 list: List::new(alloc),
             },
             names: NameSet::new(alloc),
-            lemmas: 0,
+            lemmas: Lemmas {
+                list: List::new(alloc),
+            },
             proofs: List::new(alloc),
             proof: None,
         }
@@ -204,7 +222,11 @@ impl Running {
         ensures { LemmaRow self.now used all deepest result }
     {
         let large = size_row(0, 0, all, deepest, None);
-        let many = row_if(self.lemmas >= MAX_LEMMAS, Row::TooManyLemmas, large);
+        let many = row_if(
+            self.lemmas.list.len() >= MAX_LEMMAS,
+            Row::TooManyLemmas,
+            large,
+        );
         row_if(
             self.is_open(),
             Row::ProofIsOpen,
@@ -249,14 +271,18 @@ impl Running {
     {
         let Proof {
             name,
-            statement: _,
+            statement,
             steps,
             goals: _,
         } = proof;
         let proof = join(alloc, steps)?;
         self.names.insert(alloc, name.bytes())?;
+        let stated = copy_name(alloc, &name)?;
+        self.lemmas.list.push(Lemma {
+            name: stated,
+            formula: statement,
+        })?;
         self.proofs.push(Named { name, proof })?;
-        self.lemmas = self.lemmas.saturating_add(1).min(MAX_LEMMAS);
         Ok(())
     }
 
@@ -282,10 +308,12 @@ impl Running {
         }))
     }
 
-    /// Does a directive on the first goal that is left.
-    pub fn directive(&mut self, alloc: Global, step: Step) -> Result<Done, Memory>
-        requires { IsKept self.now }
-        ensures { IfOk result (Directs self.old (step_view step.entry) self.new) }
+    /// Does a directive that is built on the first goal that is left.
+    fn directive(&mut self, alloc: Global, directive: &Directive) -> Result<Done, Memory>
+        requires kept { IsKept self.now }
+        requires built { IsBuilt directive.now }
+        requires handed { TermsFit (length (scope_of self.now)) directive.now }
+        ensures { IfOk result (Directs self.old directive.now self.new) }
     {
         let Some(proof) = self.proof.take() else {
             return Ok(Done::Refused(Refusal {
@@ -293,32 +321,36 @@ impl Running {
                 name: None,
             }));
         };
-        match proof.row(alloc, step)? {
-            Some(row) => {
-                self.proof = Some(proof);
-                directive_refused(alloc, row, step.name())
-            }
-            None => {
-                self.proof = Some(proof.stepped(alloc, step)?);
+        match proof.first_step(alloc, &self.preds, &self.lemmas, directive) {
+            Ok(parts) => {
+                self.proof = Some(proof.stepped(parts)?);
                 Ok(Done::Moved)
+            }
+            Err(fault) => {
+                let refusal = refusal_of(alloc, &fault)?;
+                self.proof = Some(proof);
+                Ok(Done::Refused(refusal))
             }
         }
     }
 
     /// Does a directive, if it is built.
     fn any_directive(&mut self, alloc: Global, directive: &Directive) -> Result<Done, Memory>
-        requires { IsKept self.now }
-        ensures { IfOk result (DirectsIf self.old (step_of directive.now) self.new) }
+        requires kept { IsKept self.now }
+        requires handed { TermsFit (length (scope_of self.now)) directive.now }
+        ensures { IfOk result (DirectsIf self.old directive.now self.new) }
     {
-        match step_of(directive) {
-            Some(step) => self.directive(alloc, step),
-            None => Ok(Done::Unbuilt),
+        if is_built(directive) {
+            self.directive(alloc, directive)
+        } else {
+            Ok(Done::Unbuilt)
         }
     }
 
     /// Does a sentence that states neither a predicate nor a lemma.
     fn other_sentence(&mut self, alloc: Global, sentence: &Sentence) -> Result<Done, Memory>
-        requires { IsKept self.now }
+        requires kept { IsKept self.now }
+        requires handed { IsHanded self.now sentence.now }
         ensures { StatesNothing sentence.now → IfOk result (DoesSentence self.old sentence.now self.new) }
     {
         match sentence {
@@ -337,7 +369,8 @@ impl Running {
 
     /// Does a sentence, whose names and trees go into what is kept.
     pub fn sentence(&mut self, alloc: Global, sentence: Sentence) -> Result<Done, Memory>
-        requires { IsKept self.now }
+        requires kept { IsKept self.now }
+        requires handed { IsHanded self.now sentence }
         ensures { IfOk result (DoesSentence self.old sentence self.new) }
     {
         match sentence.into_stated() {

@@ -14,8 +14,8 @@ use Rattle.pm_display.specs.Goals.{IsShallowHyp, IsShallow}
 use Rattle.pm_run.specs.declared.halted.Halted.{Halted}
 use Rattle.pm_run.specs.declared.stop.Stop.{Stop}
 use Rattle.pm_run.specs.Runs.{State}
-use Rattle.pm_run.specs.Rows.{formulas, greatest_depth}
-use Rattle.pm_run.specs.Stepping.{IsWithin}
+use Rattle.pm_table.specs.Limits.{greatest_depth}
+use Rattle.pm_run.specs.Within.{IsWithin}
 use Rattle.pm_run.specs.Keeping.{AreWithin}
 use Rattle.pm_run.specs.Halting.{goals_of, EachWithin, HaltsAs}
 use Rattle.pm_run.proofs.OneHalt.{halts_are_one}

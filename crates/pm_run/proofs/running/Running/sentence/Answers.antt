@@ -3,7 +3,7 @@ use Rattle.std.specs.Prelude.{IfOk, Ok, Err}
 use Rattle.pm_script.specs.declared.sentence.Sentence.TheVariants as sentence
 use Rattle.pm_script.specs.declared.sentence.Stated.TheVariants as stated
 use Rattle.pm_script.specs.Stating.{stated_of}
-use Rattle.pm_run.specs.Keeping.{AddsPredicate, Opens, StatesNothing, DoesSentence}
+use Rattle.pm_run.specs.Keeping.{IsHanded, AddsPredicate, Opens, StatesNothing, DoesSentence}
 use Rattle.pm_run.proofs.Doings.{on_ok, does_predicate, does_lemma, is_predicate, is_lemma, is_other}
 use Rattle.pm_run.proofs.running.Running.sentence.Goals as goal
 
@@ -25,6 +25,11 @@ returns-in-Ok-Lemma c =
     subst (λ x. IfOk c.lemma.result (DoesSentence c.args.self.now x c.lemma.new.self)) (sym (is_lemma c.args.sentence name statement e))
     (on_ok (Opens c.args.self.now name statement c.lemma.new.self) (DoesSentence c.args.self.now (sentence.Lemma name statement) c.lemma.new.self) c.lemma.result
     (λ d h. λ s k sayable. does_lemma s name statement c.args.self.now c.lemma.new.self d (h s k sayable)) c.lemma.ensures)
+
+pub other_sentence-requires-clause-handed : goal.other_sentence-requires-clause-handed
+other_sentence-requires-clause-handed c =
+    let e : stated_of c.args.sentence ≡ Err c.in-Err.other = search rules in
+    subst (IsHanded c.args.self.now) (is_other c.args.sentence c.in-Err.other e) c.requires.handed
 
 pub returns-in-Err : goal.returns-in-Err
 returns-in-Err c =
