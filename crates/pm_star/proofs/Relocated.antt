@@ -1,5 +1,5 @@
 -- A part of a star at another place.
-use Rattle.std.proofs.Common.{◌≡◌, ℕ, zero, suc, ◌+◌, ◌-◌, ◌*◌, ◌≤◌, ◌<◌, List, [], ◌∷◌, ◌++◌, length, take, drop, get_or, insert, sym, ap, subst, ◌∙◌, arith, length-drop}
+use Rattle.std.proofs.Common.{◌≡◌, ℕ, zero, suc, ◌+◌, ◌-◌, ◌*◌, ◌≤◌, ◌<◌, List, [], ◌∷◌, ◌++◌, length, take, drop, get_or, insert, refl, sym, ap, subst, ◌∙◌, arith, length-drop}
 use Rattle.std.proofs.lemmas.List.{take_rest}
 use Rattle.pm_logic.specs.declared.formula.Formula.{Formula}
 use Rattle.pm_logic.specs.declared.formula.Formula.TheVariants.{Pure as Assert}
@@ -89,3 +89,19 @@ earlier_done k fs tail before i j inner p lt here slice ahead m b =
     let right_is : star_onto before (star (in_front tail (i - j))) ≡ star (moved fs i j) =
     ap (λ z. star_onto z (star (in_front tail (i - j)))) ahead ∙ ap (λ z. star_onto (take j fs) (star (in_front z (i - j)))) tail_is ∙ sym (star_append (take j fs) (in_front (drop j fs) (i - j)) (Assert pure.True)) ∙ ap (λ y. star (take j fs ++ y ∷ without (drop j fs) (i - j))) (part_behind fs i j le here) ∙ ap star (earlier_list fs i j (part_at fs i) le here) in
     subst (λ (y : Formula). Moves k (length fs) y (star (moved fs i j)) p) left_is (subst (λ (y : Formula). Moves k (length fs) (star_onto before (star tail)) y p) right_is all)
+
+-- ---- where it stands
+
+moved_same : (fs : List Formula) (i : ℕ) → i < length fs → moved fs i i ≡ fs
+moved_same [] i lt = absurd (omega arith)
+moved_same (f ∷ fs) zero lt = refl
+moved_same (f ∷ fs) (suc i) lt = ap (λ l. f ∷ l) (moved_same fs i (omega arith))
+
+front_same : (fs : List Formula) → 0 < length fs → in_front fs 0 ≡ fs
+front_same [] lt = absurd (omega arith)
+front_same (f ∷ fs) lt = refl
+
+pub stay_done : (k n : ℕ) (fs : List Formula) (i : ℕ) (p : Tree) → i < length fs → Moves k n (star fs) (star (in_front fs 0)) p → Moves k n (star fs) (star (moved fs i i)) p
+stay_done k n fs i p lt m =
+    let same : in_front fs 0 ≡ moved fs i i = front_same fs (omega (arith, lt)) ∙ sym (moved_same fs i lt) in
+    subst (λ l. Moves k n (star fs) (star l) p) same m

@@ -57,20 +57,20 @@ joined fs i f = take i fs ++ f ∷ drop (suc (suc i)) fs
 
 -- ---- what is known on the way
 
--- the proof is one of a ∗ part ⊢ its right side
+-- the proof is one of part ∗ a ⊢ its right side
 abbrev pub IsSunk : ℕ → Formula → Beside → Type 0
-IsSunk k a h = conclusion h.proof ≡ entail k (view.Sep a h.part) (right_side h.proof)
+IsSunk k a h = conclusion h.proof ≡ entail k (view.Sep h.part a) (right_side h.proof)
 
 -- past one part
 pub record IsPast (k : ℕ) (a x : Formula) (h g : Beside) : Type 0 where
   pub part : g.part ≡ view.Sep x h.part
-  pub known : Around k 10 h.proof (view.Sep a (view.Sep x h.part)) (view.Sep x (right_side h.proof)) g.proof
+  pub known : Around k 4 h.proof (view.Sep (view.Sep x h.part) a) (view.Sep x (right_side h.proof)) g.proof
 
 -- past the parts from place i on
 pub record IsPastAll (k : ℕ) (a : Formula) (fs : List Formula) (i : ℕ) (h g : Beside) : Type 0 where
   pub within : i ≤ length fs
   pub part : g.part ≡ star_onto (drop i fs) h.part
-  pub known : Around k (10 * (length fs - i)) h.proof (view.Sep a (star_onto (drop i fs) h.part)) (star_onto (drop i fs) (right_side h.proof)) g.proof
+  pub known : Around k (4 * (length fs - i)) h.proof (view.Sep (star_onto (drop i fs) h.part) a) (star_onto (drop i fs) (right_side h.proof)) g.proof
 
 -- the proof is one of its left side ⊢ □ part
 abbrev pub IsBoxed : ℕ → Beside → Type 0

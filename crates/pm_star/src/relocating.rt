@@ -45,6 +45,15 @@ fn earlier(
     Ok(proof)
 }
 
+/// The part at the place where it stands: the star as it is.
+fn stay(alloc: Global, vars: u32, parts: &[Formula], place: usize) -> Result<Proof, Memory>
+    requires { place < length parts.now }
+    ensures { IfOk result (λ p. Moves vars (length parts.now) (star parts.now) (star (moved parts.now place place)) p) }
+{
+    let proof = to_front(alloc, vars, parts, 0)?;
+    Ok(proof)
+}
+
 /// The part at the place `from` at the place `to`, and the others in their order.
 pub fn relocate(
     alloc: Global,
@@ -57,7 +66,9 @@ pub fn relocate(
     requires to { to < length parts.now }
     ensures { IfOk result (λ p. Moves vars (length parts.now) (star parts.now) (star (moved parts.now from to)) p) }
 {
-    if from <= to {
+    if from == to {
+        stay(alloc, vars, parts, from)
+    } else if from < to {
         later(alloc, vars, parts, from, to)
     } else {
         earlier(alloc, vars, parts, from, to)

@@ -151,29 +151,24 @@ static TO_BOTH: Scheme = step!(
     )
 );
 
-/// A ∗ (Q ∗ X) ⊢ Q ∗ (A ∗ X)
-const SWAPPED: Scheme = step!(
-    Trans, sep!(A, sep!(Q, X)) => sep!(Q, sep!(A, X));
-    step!(SepAssocL, sep!(A, sep!(Q, X)) => sep!(sep!(A, Q), X));
-    step!(
-        Trans, sep!(sep!(A, Q), X) => sep!(Q, sep!(A, X));
-        step!(
-            SepMono, sep!(sep!(A, Q), X) => sep!(sep!(Q, A), X);
-            step!(SepComm, sep!(A, Q) => sep!(Q, A));
-            step!(Refl, X => X)
-        );
-        step!(SepAssocR, sep!(sep!(Q, A), X) => sep!(Q, sep!(A, X)))
-    )
+/// X ∗ A ⊢ A ∗ X
+static CROSSED: Scheme = step!(SepComm, sep!(X, A) => sep!(A, X));
+
+/// From X ∗ A ⊢ P: A ∗ X ⊢ P.
+static OTHER_WAY: Scheme = step!(
+    Trans, sep!(A, X) => P;
+    step!(SepComm, sep!(A, X) => sep!(X, A));
+    gap!(sep!(X, A) => P)
 );
 
-/// From A ∗ X ⊢ P: A ∗ (Q ∗ X) ⊢ Q ∗ P.
+/// From X ∗ A ⊢ P: (Q ∗ X) ∗ A ⊢ Q ∗ P.
 static PASSED: Scheme = step!(
-    Trans, sep!(A, sep!(Q, X)) => sep!(Q, P);
-    SWAPPED;
+    Trans, sep!(sep!(Q, X), A) => sep!(Q, P);
+    step!(SepAssocR, sep!(sep!(Q, X), A) => sep!(Q, sep!(X, A)));
     step!(
-        SepMono, sep!(Q, sep!(A, X)) => sep!(Q, P);
+        SepMono, sep!(Q, sep!(X, A)) => sep!(Q, P);
         step!(Refl, Q => Q);
-        gap!(sep!(A, X) => P)
+        gap!(sep!(X, A) => P)
     )
 );
 
@@ -362,7 +357,39 @@ pub fn to_both(
     Ok(proof)
 }
 
-/// From `A ∗ X ⊢ P`, which is its hole: `A ∗ (Q ∗ X) ⊢ Q ∗ P`.
+/// `X ∗ A ⊢ A ∗ X`
+#[tactic(auto, unfolding(pm_schemes::specs::Tests::passes, pm_schemes::specs::Tests::fits_row))]
+pub fn crossed(alloc: Global, vars: u32, a: &Formula, x: &Formula) -> Result<Proof, Memory>
+    ensures { IfOk result (λ p. Proves Every (entail vars (view.Sep x.now a.now) (view.Sep a.now x.now)) [] 1 (deepest (a.now ∷ x.now ∷ []) [] + 1) vars p) }
+{
+    let letters = Letters {
+        formulas: &[a, x],
+        pures: &[],
+    };
+    let proof = derive(alloc, vars, &CROSSED, letters)?;
+    Ok(proof)
+}
+
+/// From `X ∗ A ⊢ P`, which is its hole: `A ∗ X ⊢ P`.
+#[tactic(auto, unfolding(pm_schemes::specs::Tests::passes, pm_schemes::specs::Tests::fits_row))]
+pub fn other_way(
+    alloc: Global,
+    vars: u32,
+    a: &Formula,
+    x: &Formula,
+    p: &Formula,
+) -> Result<Proof, Memory>
+    ensures { IfOk result (λ t. Proves Every (entail vars (view.Sep a.now x.now) p.now) (entail vars (view.Sep x.now a.now) p.now ∷ []) 2 (deepest (a.now ∷ x.now ∷ p.now ∷ []) [] + 1) vars t) }
+{
+    let letters = Letters {
+        formulas: &[a, x, p],
+        pures: &[],
+    };
+    let proof = derive(alloc, vars, &OTHER_WAY, letters)?;
+    Ok(proof)
+}
+
+/// From `X ∗ A ⊢ P`, which is its hole: `(Q ∗ X) ∗ A ⊢ Q ∗ P`.
 #[tactic(auto, unfolding(pm_schemes::specs::Tests::passes, pm_schemes::specs::Tests::fits_row))]
 pub fn passed(
     alloc: Global,
@@ -372,7 +399,7 @@ pub fn passed(
     p: &Formula,
     q: &Formula,
 ) -> Result<Proof, Memory>
-    ensures { IfOk result (λ t. Proves Every (entail vars (view.Sep a.now (view.Sep q.now x.now)) (view.Sep q.now p.now)) (entail vars (view.Sep a.now x.now) p.now ∷ []) 10 (deepest (a.now ∷ x.now ∷ p.now ∷ q.now ∷ []) [] + 2) vars t) }
+    ensures { IfOk result (λ t. Proves Every (entail vars (view.Sep (view.Sep q.now x.now) a.now) (view.Sep q.now p.now)) (entail vars (view.Sep x.now a.now) p.now ∷ []) 4 (deepest (a.now ∷ x.now ∷ p.now ∷ q.now ∷ []) [] + 2) vars t) }
 {
     let letters = Letters {
         formulas: &[a, x, p, q],

@@ -1,4 +1,5 @@
-//! A part in front of a star goes to a place in it.
+//! A part beside a star goes to a place in it. While it goes past other parts it stands behind them, where each takes three
+//! lines of the length of the star; in front it would take nine.
 
 ghost use Rattle.std.specs.Prelude.{◌≡◌, ◌≤◌, IfOk, length, insert};
 ghost use Rattle.pm_logic.specs.declared.formula.Formula.TheViews as view;
@@ -6,7 +7,7 @@ ghost use Rattle.pm_star.specs.Stars.{star, Moves};
 ghost use Rattle.pm_star.specs.Chains.{IsSunk, IsPast, IsPastAll};
 
 use crate::beside::Beside;
-use crate::rules::{passed, same};
+use crate::rules::{crossed, other_way, passed};
 use crate::walks::star_of;
 use pm_logic::{Formula, Memory, copy, sep};
 use pm_proof::Proof;
@@ -62,9 +63,10 @@ pub fn to_place(
     ensures { IfOk result (λ p. Moves vars (length parts.now) (view.Sep a.now (star parts.now)) (star (insert parts.now place a.now)) p) }
 {
     let rest = star_of(alloc, &parts[place..])?;
-    let proof = same(alloc, vars, a, &rest)?;
+    let proof = crossed(alloc, vars, a, &rest)?;
     let start = Beside { proof, part: rest };
     let made = past_all(alloc, vars, a, &parts[..place], start)?;
-    let Beside { proof, part: _ } = made;
-    Ok(proof)
+    let Beside { proof, part } = made;
+    let step = other_way(alloc, vars, a, &part, &proof.conclusion().right)?;
+    Ok(step.fill(0, proof))
 }
