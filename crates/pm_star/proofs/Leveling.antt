@@ -14,7 +14,7 @@ use Rattle.pm_proof.specs.Known.{Proves, Every, FillProves, FillExtends}
 use Rattle.pm_proof.proofs.Fills.{weaker}
 use Rattle.pm_schemes.specs.Sketches.{deepest}
 use Rattle.pm_star.specs.Stars.{room, left_more, right_more}
-use Rattle.pm_star.specs.Levels.{IsShared, IsHalved, IsLevel, Around, left_side, right_side}
+use Rattle.pm_star.specs.Levels.{IsShared, IsHalved, IsLevel, IsTurned, Around, left_side, right_side}
 use Rattle.pm_star.specs.declared.side.Side.{Side}
 use Rattle.pm_star.specs.declared.side.Side.TheVariants as side
 use Rattle.pm_star.specs.declared.levels.Halves.{Halves}
@@ -111,6 +111,15 @@ right_done k x a e step out r is halved ris p f = level_of k x side.Right a e 10
 pub both_done : (k : ℕ) (x : Formula) (a : Halves) (e : Entail) (step out : Tree) (l r : Formula) → e ≡ conclusion a.proof → IsHalved k a → l ≡ view.Sep x a.left → r ≡ view.Sep x a.right → Proves Every (entail k (view.Sep x e.left) (view.Sep (view.Sep x a.left) (view.Sep x a.right))) (entail k e.left (view.Sep a.left a.right) ∷ []) 26 (deepest (x ∷ e.left ∷ a.left ∷ a.right ∷ []) [] + 3) k step → FillExtends step 0 a.proof out → IsLevel k x side.Both a (record { proof = out; left = l; right = r })
 unfolding star_onto
 both_done k x a e step out l r is halved lis ris p f = level_of k x side.Both a e 26 3 step out l r (omega arith) (omega arith) is halved lis ris (rw (lis, ris) p) f
+
+pub turned_done : (k : ℕ) (a : Halves) (e : Entail) (step out : Tree) → e ≡ conclusion a.proof → IsHalved k a → Proves Every (entail k e.left (view.Sep a.right a.left)) (entail k e.left (view.Sep a.left a.right) ∷ []) 2 (deepest (e.left ∷ a.left ∷ a.right ∷ []) [] + 1) k step → FillExtends step 0 a.proof out → IsTurned k a (record { proof = out; left = a.right; right = a.left })
+turned_done k a e step out is halved p f =
+    let deep : deepest (e.left ∷ a.left ∷ a.right ∷ []) [] + 1 ≤ room e.left (view.Sep a.right a.left) = omega (arith, depth_sep a.right a.left) in
+    record {
+      left = refl;
+      right = refl;
+      known = subst (λ (y : Entail). Around k 2 a.proof y.left (view.Sep a.right a.left) out) is (around k 2 2 (deepest (e.left ∷ a.left ∷ a.right ∷ []) [] + 1) (entail k e.left (view.Sep a.left a.right)) e.left (view.Sep a.right a.left) a.proof step out p (level_hole k a e is halved) f (omega arith) deep);
+    }
 
 -- the first of a step's two holes, closed
 pub both_closed : (k : ℕ) (x l p q : Formula) (doubled step out : Tree) → Again k x l doubled → Proves Every (entail k (view.Sep x l) (view.Sep (view.Sep x p) (view.Sep x q))) (entail k (view.Sep x l) (view.Sep x (view.Sep x l)) ∷ entail k l (view.Sep p q) ∷ []) 15 (deepest (x ∷ l ∷ p ∷ q ∷ []) [] + 3) k step → FillProves step 0 doubled out → Proves Every (entail k (view.Sep x l) (view.Sep (view.Sep x p) (view.Sep x q))) (entail k l (view.Sep p q) ∷ []) 26 (deepest (x ∷ l ∷ p ∷ q ∷ []) [] + 3) k out

@@ -2,6 +2,7 @@ pub mod Scoping
 pub mod Leveling
 pub mod Walking
 pub mod Moving
+pub mod Turning
 pub mod Sunk
 pub mod UnderBox
 pub mod Relocated

@@ -14,7 +14,7 @@ use Rattle.pm_proof.specs.Known.{Proves, Every}
 use Rattle.pm_proof.proofs.Fills.{weaker, extends_proves}
 use Rattle.pm_schemes.specs.Sketches.{deepest}
 use Rattle.pm_star.specs.Stars.{star, part_at, without, in_front, duplicated, dealt, room, side_at, lefts, rights, Moves, MovesBy}
-use Rattle.pm_star.specs.Levels.{IsShared, IsHalved, IsDealt, IsBehind, Around, left_side, right_side}
+use Rattle.pm_star.specs.Levels.{IsShared, IsHalved, IsSplit, IsBehind, Around, left_side, right_side}
 use Rattle.pm_star.specs.declared.side.Side.TheVariants as side
 use Rattle.pm_star.specs.declared.levels.Halves.{Halves}
 use Rattle.pm_star.proofs.Scoping.{Scopes, depth_sep, scoped_sep, sep_scoped, scoped_onto, truth_scoped}
@@ -79,14 +79,12 @@ left_empty : (end : Formula) → star_onto [] end ≡ end
 unfolding star_onto
 left_empty end = refl
 
-pub past_done : (k : ℕ) (fs : List Formula) (a b : Halves) → IsDealt k (side_at 0 []) fs 0 a b → Around k (30 * length fs) a.proof (star_onto fs (left_side a.proof)) (view.Sep a.left (star_onto fs a.right)) b.proof
+pub past_done : (k : ℕ) (fs : List Formula) (a b : Halves) → IsSplit k (side_at 0 []) fs a b → Around k (30 * length fs + 4) a.proof (star_onto fs (left_side a.proof)) (view.Sep a.left (star_onto fs a.right)) b.proof
 past_done k fs a b s =
     let l : b.left ≡ a.left = s.left ∙ ap (λ ls. star_onto ls a.left) (no_lefts fs 0) ∙ left_empty a.left in
-    let all : length fs - 0 ≡ length fs = omega arith in
     let r : b.right ≡ star_onto fs a.right = s.right ∙ ap (λ ls. star_onto ls a.right) (all_rights fs 0) in
-    subst (λ (y : Formula). Around k (30 * length fs) a.proof (star_onto fs (left_side a.proof)) (view.Sep y (star_onto fs a.right)) b.proof) l
-    (subst (λ (y : Formula). Around k (30 * length fs) a.proof (star_onto fs (left_side a.proof)) (view.Sep b.left y) b.proof) r
-    (subst (λ (n : ℕ). Around k (30 * n) a.proof (star_onto fs (left_side a.proof)) (view.Sep b.left b.right) b.proof) all s.known))
+    subst (λ (y : Formula). Around k (30 * length fs + 4) a.proof (star_onto fs (left_side a.proof)) (view.Sep y (star_onto fs a.right)) b.proof) l
+    (subst (λ (y : Formula). Around k (30 * length fs + 4) a.proof (star_onto fs (left_side a.proof)) (view.Sep b.left y) b.proof) r s.known)
 
 pub none_shared : (fs : List Formula) (i : ℕ) → i < 0 → IsShared (part_at fs i)
 none_shared fs i lt = absurd (omega (arith, lt))
@@ -130,31 +128,31 @@ behind_slice fs i rest is =
 pub ahead_length : (fs before : List Formula) (i : ℕ) → i < length fs → before ≡ take i fs → length before ≤ length fs
 ahead_length fs before i lt ahead = omega (arith, lt, ap length ahead ∙ taken fs i (omega (arith, lt)))
 
-pub front_done : (k : ℕ) (fs before : List Formula) (i : ℕ) (x rest left : Formula) (base p : Tree) → i < length fs → x ≡ get_or fs i x → rest ≡ star (drop (suc i) fs) → before ≡ take i fs → left ≡ x → Proves Every (entail k (view.Sep x rest) (view.Sep x rest)) [] 1 (deepest (x ∷ rest ∷ []) [] + 1) k base → Around k (30 * length before) base (star_onto before (left_side base)) (view.Sep left (star_onto before rest)) p → Moves k (length fs) (star fs) (star (in_front fs i)) p
+pub front_done : (k : ℕ) (fs before : List Formula) (i : ℕ) (x rest left : Formula) (base p : Tree) → i < length fs → x ≡ get_or fs i x → rest ≡ star (drop (suc i) fs) → before ≡ take i fs → left ≡ x → Proves Every (entail k (view.Sep x rest) (view.Sep x rest)) [] 1 (deepest (x ∷ rest ∷ []) [] + 1) k base → Around k (30 * length before + 4) base (star_onto before (left_side base)) (view.Sep left (star_onto before rest)) p → Moves k (length fs) (star fs) (star (in_front fs i)) p
 front_done k fs before i x rest left base p lt at behind ahead lis b a =
     let s : Formula = view.Sep x rest in
     let l1 : Formula = star_onto before s in
     let r1 : Formula = view.Sep left (star_onto before rest) in
-    let a1 : Around k (30 * length before) base l1 r1 p = subst (λ (y : Formula). Around k (30 * length before) base (star_onto before y) r1 p) (base_left k 1 (deepest (x ∷ rest ∷ []) [] + 1) s s base b) a in
+    let a1 : Around k (30 * length before + 4) base l1 r1 p = subst (λ (y : Formula). Around k (30 * length before + 4) base (star_onto before y) r1 p) (base_left k 1 (deepest (x ∷ rest ∷ []) [] + 1) s s base b) a in
     let deep : deepest (x ∷ rest ∷ []) [] + 1 ≤ room l1 r1 = omega (arith, depth_sep x rest, onto_deep before s) in
-    let total : 1 + 30 * length before ≤ 100 * (length fs + 1) = omega (arith, ahead_length fs before i lt ahead) in
+    let total : 1 + (30 * length before + 4) ≤ 100 * (length fs + 1) = omega (arith, ahead_length fs before i lt ahead) in
     let wants : Scopes k l1 r1 s s = λ preds e. let h = (scoped_onto preds k before s e.0).1 in (h, h) in
-    let m = built k (30 * length before) 1 (length fs) (deepest (x ∷ rest ∷ []) [] + 1) s s l1 r1 base p wants b a1 deep total in
+    let m = built k (30 * length before + 4) 1 (length fs) (deepest (x ∷ rest ∷ []) [] + 1) s s l1 r1 base p wants b a1 deep total in
     let here : x ≡ part_at fs i = at_place fs i x lt at in
     let left_is : l1 ≡ star fs = place_is fs before i x rest lt here behind ahead in
     let right_is : r1 ≡ star (in_front fs i) = ap (λ y. view.Sep y (star_onto before rest)) (lis ∙ here) ∙ ap (view.Sep (part_at fs i)) (rest_is fs before i rest behind ahead) ∙ star_front (without fs i) (part_at fs i) in
     subst (λ (y : Formula). Moves k (length fs) y (star (in_front fs i)) p) left_is (subst (λ (y : Formula). Moves k (length fs) l1 y p) right_is m)
 
-pub double_done : (k : ℕ) (fs before : List Formula) (i : ℕ) (x rest left right : Formula) (base p : Tree) → i < length fs → x ≡ get_or fs i x → rest ≡ star (drop (suc i) fs) → before ≡ take i fs → left ≡ x → right ≡ view.Sep x rest → Proves Every (entail k (view.Sep x rest) (view.Sep x (view.Sep x rest))) [] 11 (deepest (x ∷ rest ∷ []) [] + 3) k base → Around k (30 * length before) base (star_onto before (left_side base)) (view.Sep left (star_onto before right)) p → Moves k (length fs) (star fs) (star (duplicated fs i)) p
+pub double_done : (k : ℕ) (fs before : List Formula) (i : ℕ) (x rest left right : Formula) (base p : Tree) → i < length fs → x ≡ get_or fs i x → rest ≡ star (drop (suc i) fs) → before ≡ take i fs → left ≡ x → right ≡ view.Sep x rest → Proves Every (entail k (view.Sep x rest) (view.Sep x (view.Sep x rest))) [] 11 (deepest (x ∷ rest ∷ []) [] + 3) k base → Around k (30 * length before + 4) base (star_onto before (left_side base)) (view.Sep left (star_onto before right)) p → Moves k (length fs) (star fs) (star (duplicated fs i)) p
 double_done k fs before i x rest left right base p lt at behind ahead lis ris b a =
     let s : Formula = view.Sep x rest in
     let l1 : Formula = star_onto before s in
     let r1 : Formula = view.Sep left (star_onto before right) in
-    let a1 : Around k (30 * length before) base l1 r1 p = subst (λ (y : Formula). Around k (30 * length before) base (star_onto before y) r1 p) (base_left k 11 (deepest (x ∷ rest ∷ []) [] + 3) s (view.Sep x s) base b) a in
+    let a1 : Around k (30 * length before + 4) base l1 r1 p = subst (λ (y : Formula). Around k (30 * length before + 4) base (star_onto before y) r1 p) (base_left k 11 (deepest (x ∷ rest ∷ []) [] + 3) s (view.Sep x s) base b) a in
     let deep : deepest (x ∷ rest ∷ []) [] + 3 ≤ room l1 r1 = omega (arith, depth_sep x rest, onto_deep before s) in
-    let total : 11 + 30 * length before ≤ 100 * (length fs + 1) = omega (arith, ahead_length fs before i lt ahead) in
+    let total : 11 + (30 * length before + 4) ≤ 100 * (length fs + 1) = omega (arith, ahead_length fs before i lt ahead) in
     let wants : Scopes k l1 r1 s (view.Sep x s) = λ preds e. let h = (scoped_onto preds k before s e.0).1 in (h, sep_scoped preds k x s (scoped_sep preds k x rest h).0 h) in
-    let m = built k (30 * length before) 11 (length fs) (deepest (x ∷ rest ∷ []) [] + 3) s (view.Sep x s) l1 r1 base p wants b a1 deep total in
+    let m = built k (30 * length before + 4) 11 (length fs) (deepest (x ∷ rest ∷ []) [] + 3) s (view.Sep x s) l1 r1 base p wants b a1 deep total in
     let here : x ≡ part_at fs i = at_place fs i x lt at in
     let left_is : l1 ≡ star fs = place_is fs before i x rest lt here behind ahead in
     let right_is : r1 ≡ star (duplicated fs i) = ap (λ y. view.Sep y (star_onto before right)) (lis ∙ here) ∙ ap (λ y. view.Sep (part_at fs i) (star_onto before y)) ris ∙ ap (view.Sep (part_at fs i)) left_is ∙ star_front fs (part_at fs i) in
@@ -191,9 +189,9 @@ exchange_done k fs before i rest by base p lt at behind ahead b a =
     let right_is : r1 ≡ star (set fs i (right_side by)) = ap (λ b. star_onto b r) ahead ∙ ap (λ y. star_onto (take i fs) (view.Sep (right_side by) y)) behind ∙ star_set fs i (right_side by) lt in
     subst (λ (y : Formula). MovesBy by k (length fs) y (star (set fs i (right_side by))) p) left_is (subst (λ (y : Formula). MovesBy by k (length fs) l1 y p) right_is m)
 
-pub split_done : (k n : ℕ) (listed : List ℕ) (fs : List Formula) (base : Tree) (b : Halves) → Proves Every (entail k (Assert pure.True) (view.Sep (Assert pure.True) (Assert pure.True))) [] 1 5 k base → IsDealt k (side_at n listed) fs 0 (record { proof = base; left = Assert pure.True; right = Assert pure.True }) b → Moves k (length fs) (star fs) (dealt n listed fs) b.proof
+pub split_done : (k n : ℕ) (listed : List ℕ) (fs : List Formula) (base : Tree) (b : Halves) → Proves Every (entail k (Assert pure.True) (view.Sep (Assert pure.True) (Assert pure.True))) [] 1 5 k base → IsSplit k (side_at n listed) fs (record { proof = base; left = Assert pure.True; right = Assert pure.True }) b → Moves k (length fs) (star fs) (dealt n listed fs) b.proof
 split_done k n listed fs base b p s =
-    let m : ℕ = 30 * (length fs - 0) in
+    let m : ℕ = 30 * length fs + 4 in
     let a1 : Around k m base (star fs) (view.Sep b.left b.right) b.proof = subst (λ (y : Formula). Around k m base (star_onto fs y) (view.Sep b.left b.right) b.proof) (base_left k 1 5 (Assert pure.True) (view.Sep (Assert pure.True) (Assert pure.True)) base p) s.known in
     let deep : 5 ≤ room (star fs) (view.Sep b.left b.right) = omega arith in
     let total : 1 + m ≤ 100 * (length fs + 1) = omega arith in

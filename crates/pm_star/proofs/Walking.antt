@@ -14,7 +14,7 @@ use Rattle.pm_rules.specs.declared.rules.Entail.{Entail}
 use Rattle.pm_proof.specs.Trees.{Tree, entail, conclusion}
 use Rattle.pm_proof.proofs.Fills.{extends_weaker, extends_more}
 use Rattle.pm_star.specs.Stars.{star, part_at, room, side_at, left_more, right_more, lefts, rights}
-use Rattle.pm_star.specs.Levels.{IsShared, IsHalved, IsLevel, IsDealt, IsBehind, Around, left_side, right_side}
+use Rattle.pm_star.specs.Levels.{IsShared, IsHalved, IsLevel, IsDealt, IsBehind, Around, across, facing, left_side, right_side}
 use Rattle.pm_star.specs.declared.side.Side.{Side}
 use Rattle.pm_star.specs.declared.side.Side.TheVariants as side
 use Rattle.pm_star.specs.declared.levels.Halves.{Halves}
@@ -186,6 +186,15 @@ both_first n listed i h = go (nat_lt i n) refl h
     go true e h1 = ltb-true i n e
     go false e h1 = absurd (other (list_any (λ j. j == i) listed) h1)
 
-pub both_shared : (n : ℕ) (listed : List ℕ) (fs : List Formula) (i : ℕ) (x : Formula) (z : Side) → i < length fs → x ≡ get_or fs i x → ((j : ℕ) → j < n → IsShared (part_at fs j)) → z ≡ side_at n listed i → z ≡ side.Both → IsShared x
-both_shared n listed fs i x z lt at shared to both =
-    subst IsShared (get_or_default fs i (Assert pure.True) x lt ∙ sym at) (shared i (both_first n listed i (sym to ∙ both)))
+across_both : (z : Side) → across z ≡ side.Both → z ≡ side.Both
+across_both side.Left e = absurd (cc)
+across_both side.Right e = absurd (cc)
+across_both side.Both e = refl
+
+facing_both : (crossed : Bool) (sides : ℕ → Side) (i : ℕ) → facing crossed sides i ≡ side.Both → sides i ≡ side.Both
+facing_both true sides i e = across_both (sides i) e
+facing_both false sides i e = e
+
+pub both_shared : (crossed : Bool) (n : ℕ) (listed : List ℕ) (fs : List Formula) (i : ℕ) (x : Formula) (z : Side) → i < length fs → x ≡ get_or fs i x → ((j : ℕ) → j < n → IsShared (part_at fs j)) → z ≡ facing crossed (side_at n listed) i → z ≡ side.Both → IsShared x
+both_shared crossed n listed fs i x z lt at shared to both =
+    subst IsShared (get_or_default fs i (Assert pure.True) x lt ∙ sym at) (shared i (both_first n listed i (facing_both crossed (side_at n listed) i (sym to ∙ both))))

@@ -5,7 +5,7 @@ ghost use Rattle.pm_logic.specs.declared.formula.Formula.TheViews as view;
 ghost use Rattle.pm_proof.specs.Trees.{entail, conclusion};
 ghost use Rattle.pm_proof.specs.Known.{Proves, Every};
 ghost use Rattle.pm_schemes.specs.Sketches.{deepest};
-ghost use Rattle.pm_star.specs.Levels.{IsShared, IsHalved, IsLevel, Around, left_side, right_side};
+ghost use Rattle.pm_star.specs.Levels.{IsShared, IsHalved, IsLevel, IsTurned, Around, left_side, right_side};
 ghost use Rattle.pm_star.specs.declared.side.Side.TheVariants as sides;
 
 use crate::rules;
@@ -48,6 +48,21 @@ pub fn again(alloc: Global, vars: u32, x: &Formula, rest: &Formula) -> Result<Pr
         }
         _ => unreachable!(),
     }
+}
+
+/// The two halves for each other.
+pub fn turned(alloc: Global, vars: u32, halves: Halves) -> Result<Halves, Memory>
+    requires { IsHalved vars halves }
+    ensures { IfOk result (λ h. IsTurned vars halves h) }
+{
+    let Halves { proof, left, right } = halves;
+    let step = rules::turned(alloc, vars, &proof.conclusion().left, &left, &right)?;
+    let proof = step.fill(0, proof);
+    Ok(Halves {
+        proof,
+        left: right,
+        right: left,
+    })
 }
 
 fn to_left(alloc: Global, vars: u32, x: &Formula, halves: Halves) -> Result<Halves, Memory>

@@ -17,7 +17,7 @@ use std::alloc::Global;
 /// The left half stays in front of all the parts, which the right half gains.
 fn past(alloc: Global, vars: u32, parts: &[Formula], halves: Halves) -> Result<Proof, Memory>
     requires { IsHalved vars halves }
-    ensures { IfOk result (λ p. Around vars (30 * length parts.now) halves.proof (star_onto parts.now (left_side halves.proof)) (view.Sep halves.left (star_onto parts.now halves.right)) p) }
+    ensures { IfOk result (λ p. Around vars (30 * length parts.now + 4) halves.proof (star_onto parts.now (left_side halves.proof)) (view.Sep halves.left (star_onto parts.now halves.right)) p) }
 {
     let made = deal(alloc, vars, parts, 0, &[], halves)?;
     let Halves {

@@ -151,6 +151,13 @@ static TO_BOTH: Scheme = step!(
     )
 );
 
+/// From A ⊢ X ∗ B: A ⊢ B ∗ X.
+static TURNED: Scheme = step!(
+    Trans, A => sep!(B, X);
+    gap!(A => sep!(X, B));
+    step!(SepComm, sep!(X, B) => sep!(B, X))
+);
+
 /// X ∗ A ⊢ A ∗ X
 static CROSSED: Scheme = step!(SepComm, sep!(X, A) => sep!(A, X));
 
@@ -354,6 +361,25 @@ pub fn to_both(
         pures: &[],
     };
     let proof = derive(alloc, vars, &TO_BOTH, letters)?;
+    Ok(proof)
+}
+
+/// From `A ⊢ X ∗ B`, which is its hole: `A ⊢ B ∗ X`.
+#[tactic(auto, unfolding(pm_schemes::specs::Tests::passes, pm_schemes::specs::Tests::fits_row))]
+pub fn turned(
+    alloc: Global,
+    vars: u32,
+    a: &Formula,
+    x: &Formula,
+    b: &Formula,
+) -> Result<Proof, Memory>
+    ensures { IfOk result (λ t. Proves Every (entail vars a.now (view.Sep b.now x.now)) (entail vars a.now (view.Sep x.now b.now) ∷ []) 2 (deepest (a.now ∷ x.now ∷ b.now ∷ []) [] + 1) vars t) }
+{
+    let letters = Letters {
+        formulas: &[a, x, b],
+        pures: &[],
+    };
+    let proof = derive(alloc, vars, &TURNED, letters)?;
     Ok(proof)
 }
 
