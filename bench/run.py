@@ -2,12 +2,19 @@
 """Measures `run`: seconds, megabytes of script a second and peak memory on generated scripts, each in four sizes, of
 which the next is twice the one before: where time is linear, so are the seconds.
 
-Run it at the top of the repository, after the program was built (./mosel does that), or name a program:
-    python3 bench/run.py [PROGRAM]
+Then it measures single lemmas, with `check` on the derivation of each: stars of 5 to 60 cells that are taken apart and
+dealt out again, and one of 10,000 directives. Behind those of a kind it prints how bytes and seconds grow with the size,
+as exponents of it, and what of the limits isn't kept: at 60 cells both run for under 0.5 seconds, the derivation has at
+most 30 MB, and bytes grow with the cube of the size at most.
+
+Run it at the top of the repository, after the program was built (./mosel does that), or name a program; --lemmas leaves
+out the scripts that are measured first:
+    python3 bench/run.py [--lemmas] [PROGRAM]
 It writes its inputs to bench/out, which isn't kept, and prints a line for each.
 """
 
 import itertools
+import math
 import os
 import subprocess
 import sys
@@ -88,7 +95,7 @@ def tree(size):
 
 
 def names(size):
-    """One sentence with many names between quotes, which isn't built yet."""
+    """One sentence with many names between quotes, which is refused at the second one."""
     return filled(size, b'Lemma many : True -* True. iIntros "', b"H ", b'".')
 
 
@@ -106,6 +113,34 @@ def parameters(size):
 
 
 KINDS = (small_lemmas, long_lemmas, wide_lemmas, blanks, comment, sentences, wands, parentheses, tree, names, parameters)
+
+
+def dealt(cells):
+    """A star of so many cells, of which each is handed to its place in the star that stands the other way round."""
+    star = [b"%d |-> %d" % (j, j) for j in range(cells)]
+    names = [b"H%d" % j for j in range(cells)]
+    yield b"Lemma dealt : %s |- %s.\n" % (b" * ".join(star), b" * ".join(reversed(star)))
+    yield b'iIntros "(%s)".\n' % b" & ".join(names)
+    for name in reversed(names[1:]):
+        yield b'iSplitL "%s". iExact "%s".\n' % (name, name)
+    yield b'iExact "%s". Qed.\n' % names[0]
+
+
+def reverted(directives):
+    """So many directives, an even number: a hypothesis comes and goes."""
+    yield b"Lemma reverted : 1 |-> 2 |- 1 |-> 2.\n"
+    yield b'iIntros "H".\n'
+    for _ in range(directives // 2 - 1):
+        yield b'iRevert "H". iIntros "H".\n'
+    yield b'iExact "H". Qed.\n'
+
+
+LEMMAS = {dealt: (5, 10, 20, 40, 60), reverted: (1_250, 2_500, 5_000, 10_000)}
+
+# of the largest star
+MOST_SECONDS = 0.5
+MOST_MB = 30
+MOST_GROWTH = 3
 
 
 def write(kind, size, path):
@@ -131,10 +166,69 @@ def measure(program, path):
     return answer, seconds, usage.ru_utime + usage.ru_stime, usage.ru_maxrss * 1024
 
 
-def main(program):
-    if not os.path.exists(program):
-        sys.exit("build the program first: ./mosel check < examples/swap.derivation")
-    os.makedirs(OUT, exist_ok=True)
+def run_to(command, source, target):
+    """Seconds, seconds of it run, and peak memory of a command that reads one file and writes another, and must end well.
+    Memory is that of the child, whose parent is small."""
+    with open(source, "rb") as reads, open(target, "wb") as writes:
+        start = time.monotonic()
+        process = subprocess.Popen(command, stdin=reads, stdout=writes)
+        _, status, usage = os.wait4(process.pid, 0)
+        seconds = time.monotonic() - start
+    if os.waitstatus_to_exitcode(status) != 0:
+        sys.exit(f"{' '.join(command)} < {source}: status {os.waitstatus_to_exitcode(status)}")
+    return seconds, usage.ru_utime + usage.ru_stime, usage.ru_maxrss * 1024
+
+
+def prove(program, kind, size):
+    """Runs a lemma and checks its derivation: bytes of that, seconds of both together, seconds that each of them ran, and
+    the larger peak."""
+    script, derivation, answer = (os.path.join(OUT, name) for name in ("script.mosel", "derivation", "answer"))
+    with open(script, "wb") as target:
+        target.writelines(kind(size))
+    run_seconds, ran, run_peak = run_to([program, "run"], script, derivation)
+    check_seconds, checked, check_peak = run_to([program, "check"], derivation, answer)
+    with open(answer, "rb") as text:
+        last = text.read().splitlines()[-1].decode()
+    if last != "accepted: 1 statements":
+        sys.exit(f"{kind.__name__} {size}: {last}")
+    return os.path.getsize(derivation), run_seconds + check_seconds, ran, checked, max(run_peak, check_peak)
+
+
+def exponent(rows, column):
+    """By how much the column's logarithm grows with that of the size, from the first row to the last one."""
+    first, last = rows[0], rows[-1]
+    return math.log(max(last[column], 1e-3) / max(first[column], 1e-3)) / math.log(last[0] / first[0])
+
+
+def beyond(rows):
+    """What of the limits the largest star doesn't keep."""
+    _, written, busy = rows[-1]
+    growth = exponent(rows, 1)
+    if busy >= MOST_SECONDS:
+        yield f"runs for {busy:.3f} seconds, and under {MOST_SECONDS} are wanted"
+    if written > MOST_MB * 1e6:
+        yield f"has {written / 1e6:.1f} MB of derivation, and at most {MOST_MB} are wanted"
+    if growth > MOST_GROWTH:
+        yield f"grows in bytes with the power {growth:.2f}, and at most {MOST_GROWTH} is wanted"
+
+
+def lemmas(program):
+    print(f"{'lemma':<12} {'size':>6} {'MB':>8} {'seconds':>8} {'run ran':>8} {'check ran':>9} {'MB/s':>7} {'peak MB':>8}")
+    for kind, sizes in LEMMAS.items():
+        rows = []
+        for size in sizes:
+            written, seconds, ran, checked, peak = prove(program, kind, size)
+            busy = ran + checked
+            rows.append((size, written, busy))
+            print(f"{kind.__name__:<12} {size:>6} {written / 1e6:>8.3f} {seconds:>8.3f} {ran:>8.3f} {checked:>9.3f} {written / 1e6 / max(busy, 1e-3):>7.1f} {peak / 1e6:>8.1f}", flush=True)
+        grown = ", ".join(f"{name} {exponent(rows, column):.2f}" for column, name in ((1, "bytes"), (2, "seconds run")))
+        print(f"{kind.__name__:<12} grows with the size to the power of: {grown}")
+        if kind is dealt:
+            for line in beyond(rows):
+                print(f"{kind.__name__:<12} {line}")
+
+
+def scripts(program):
     path = os.path.join(OUT, "script.mosel")
     print(f"{'script':<12} {'MB':>6} {'seconds':>8} {'of it run':>9} {'MB/s':>7} {'peak MB':>8}  answer")
     for kind in KINDS:
@@ -144,10 +238,21 @@ def main(program):
             print(f"{kind.__name__:<12} {mb:>6.2f} {seconds:>8.3f} {busy:>9.3f} {mb / busy:>7.1f} {peak / 1e6:>8.1f}  {answer}", flush=True)
 
 
+def main(words):
+    only_lemmas = words[:1] == ["--lemmas"]
+    program = next(iter(words[only_lemmas:]), PROGRAM)
+    if not os.path.exists(program):
+        sys.exit("build the program first: ./mosel check < examples/swap.derivation")
+    os.makedirs(OUT, exist_ok=True)
+    if not only_lemmas:
+        scripts(program)
+    lemmas(program)
+
+
 if __name__ == "__main__":
     if sys.argv[1:2] == ["--write"]:
         with open(sys.argv[4], "wb") as target:
             for piece in globals()[sys.argv[2]](int(sys.argv[3])):
                 target.write(piece)
     else:
-        main(sys.argv[1] if sys.argv[1:] else PROGRAM)
+        main(sys.argv[1:])

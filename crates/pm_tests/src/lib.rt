@@ -11,6 +11,8 @@ mod derivation;
 #[cfg(test)]
 mod devices;
 #[cfg(test)]
+mod directives;
+#[cfg(test)]
 mod given;
 #[cfg(test)]
 mod goals;
@@ -21,6 +23,8 @@ mod logic;
 #[cfg(test)]
 mod named;
 #[cfg(test)]
+mod proof_trees;
+#[cfg(test)]
 mod rules;
 #[cfg(test)]
 mod run;
@@ -28,6 +32,10 @@ mod run;
 mod script;
 #[cfg(test)]
 mod shown;
+#[cfg(test)]
+mod stars;
+#[cfg(test)]
+mod steps;
 #[cfg(test)]
 mod sums;
 #[cfg(test)]

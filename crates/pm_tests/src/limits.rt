@@ -1,6 +1,7 @@
 //! Limits of depth, length and number.
 
 use crate::given::{answers, repeated};
+use crate::run::is_proved;
 use pm_logic::{Bytes, Memory};
 use pm_top::Status;
 use std::alloc::Global;
@@ -185,6 +186,66 @@ fn large_goals(rt: HostRuntime) -> Result<(), Fail> {
     Ok(())
 }
 
+/// What stands before a star of so many truths, and what behind it; the sentence that is refused, its number, and the row.
+static LARGE: [(&str, u32, &str, &str, u32, &str); 5] = [
+    // a goal of 4,000 nodes, of which the proof stays open
+    ("Lemma a : ▷ ▷ ", 1333, ".", "", 2, "Q3"),
+    // a cell has three nodes, and becomes two cells
+    (
+        "Lemma a : 1 ↦ 2 -∗ ▷ ▷ ",
+        1331,
+        ". iIntros \"H\". iDestruct \"H\" as \"[A B]\". ",
+        "",
+        4,
+        "Q3",
+    ),
+    (
+        "Lemma a : 1 ↦ 2 -∗ ▷ ▷ ▷ ",
+        1331,
+        ". iIntros \"H\". ",
+        "iDestruct \"H\" as \"[A B]\".",
+        3,
+        "X3",
+    ),
+    (
+        "Lemma a : 1 ↦ 2 -∗ ▷ ▷ ▷ ",
+        1331,
+        ". ",
+        "iIntros \"[A B]\".",
+        2,
+        "X3",
+    ),
+    // a wand is a node
+    (
+        "Lemma a : 1 ↦ 2 -∗ ▷ ▷ ",
+        1331,
+        ". iIntros \"[A B]\". ",
+        "iRevert \"A\".",
+        3,
+        "X3",
+    ),
+];
+
+#[test]
+fn large_steps(rt: HostRuntime) -> Result<(), Fail> {
+    let alloc = rt.alloc();
+    // of 4,001 nodes
+    star_is(
+        &rt,
+        alloc,
+        "Lemma a : ▷ ▷ ▷ ",
+        1333,
+        "refused: sentence 1 at 0: X3\n",
+    )?;
+    for (begin, count, behind, sentence, number, row) in &LARGE {
+        let star = star(alloc, *count)?;
+        let mut script = repeated(alloc, begin, star.as_str(), 1, behind)?;
+        script.extend(sentence.as_bytes())?;
+        last_is_refused(&rt, alloc, &script, sentence, *number, row)?;
+    }
+    Ok(())
+}
+
 /// For each number below the count the first piece, the number, and the second piece, between two others.
 fn numbered(
     alloc: Global,
@@ -221,6 +282,17 @@ fn last_is_refused(
         Status::Refused,
         line.as_str(),
     )
+}
+
+/// Each of 64 variables.
+#[test]
+fn many_variables(rt: HostRuntime) -> Result<(), Fail> {
+    let end = "⌜_0 = _63⌝ -∗ ⌜_0 = _63⌝.";
+    let lemma = numbered(rt.alloc(), "Lemma a : ", ("∀ _", ", "), 64, end)?;
+    let end = ") \"%E\". iExact \"E\".";
+    let sentences = numbered(rt.alloc(), "iIntros (", ("x", " "), 64, end)?;
+    is_proved(&rt, rt.alloc(), lemma.as_slice(), sentences.as_slice())?;
+    Ok(())
 }
 
 /// The 65th parameter.

@@ -1,14 +1,14 @@
 //! Scripts, and what is written for them.
 
 use crate::given::{answers, words};
-use pm_logic::Memory;
+use pm_logic::{Bytes, Memory};
 use pm_top::{MemSink, MemSource, Status, SureSource, top};
 use std::alloc::Global;
 use std::process::Abort;
 use std::test::Fail;
 
 /// Scripts that are accepted, and the lines of their predicates and lemmas.
-static PROVED: [(&str, &str); 17] = [
+static PROVED: [(&str, &str); 20] = [
     ("", "accepted: 0 statements\n"),
     (" \r\n", "accepted: 0 statements\n"),
     ("(* x (* y *) z *)", "accepted: 0 statements\n"),
@@ -69,6 +69,19 @@ static PROVED: [(&str, &str); 17] = [
         "Lemma b : (∀ x, ⌜x = x⌝ ∗ □ (1 ↦ 2) ∨ (∃ y, ▷ ⌜y < 1⌝)) -∗ (▷ False ∧ 3 ↦ 4) -∗ (▷ False ∧ 3 ↦ 4). iIntros \"A\". iIntros \"B\". iExact \"B\". Qed.",
         "Lemma b : (∀ _0, ⌜_0 = _0⌝ ∗ □ 1 ↦ 2 ∨ (∃ _1, ▷ ⌜_1 < 1⌝)) -∗ ▷ ⌜False⌝ ∧ 3 ↦ 4 -∗ ▷ ⌜False⌝ ∧ 3 ↦ 4.\naccepted: 1 statements\n",
     ),
+    // each way in which blanks and comments stand between sentences, a fraction, the largest numbers
+    (
+        "Lemma a : True.\r\n(* x (* y *) z *)\r\ndone.\r\nQed.\r\n",
+        "Lemma a : ⌜True⌝.\naccepted: 1 statements\n",
+    ),
+    (
+        "Lemma f : 0 ↦{1/16} 0 ⊢ True. iIntros \"_\". done. Qed.",
+        "Lemma f : 0 ↦{1/16} 0 -∗ ⌜True⌝.\naccepted: 1 statements\n",
+    ),
+    (
+        "Lemma n : ⌜9223372036854775807 = 9223372036854775807⌝. done. Qed.",
+        "Lemma n : ⌜9223372036854775807 = 9223372036854775807⌝.\naccepted: 1 statements\n",
+    ),
     (
         "Lemma c : (|==> (1 ↦ 2 → emp)) -∗ ⌜¬ 1 ≤ 2⌝ → |==> (1 ↦ 2 → emp). iIntros \"A\". iIntros \"B\". iExact \"A\". Qed.",
         "Lemma c : (|==> 1 ↦ 2 → ⌜True⌝) -∗ ⌜¬ 1 ≤ 2⌝ → |==> 1 ↦ 2 → ⌜True⌝.\naccepted: 1 statements\n",
@@ -86,7 +99,7 @@ static WRITTEN: [(&str, &str); 4] = [
     ),
 ];
 
-static REFUSED: [(&str, &str); 19] = [
+static REFUSED: [(&str, &str); 23] = [
     (
         "Lemma a : True. iIntros \"H\".",
         "refused: sentence 2 at 16: I1\n",
@@ -137,6 +150,19 @@ static REFUSED: [(&str, &str); 19] = [
         "refused: sentence 5 at 54: Q4 a\n",
     ),
     (
+        "Lemma a : True. done. Qed. Lemma a : True.",
+        "refused: sentence 4 at 27: Q4 a\n",
+    ),
+    ("done.", "refused: sentence 1 at 0: Q1\n"),
+    (
+        "Lemma a : True. done. iSplit.",
+        "refused: sentence 3 at 22: Q9\n",
+    ),
+    (
+        "Lemma a : True ∧ True. iSplit. done. Qed.",
+        "refused: sentence 4 at 39: Q3\n",
+    ),
+    (
         "Predicate p() := True. Predicate p() := True.",
         "refused: sentence 2 at 23: Q4 p\n",
     ),
@@ -151,7 +177,7 @@ static REFUSED: [(&str, &str); 19] = [
 ];
 
 /// What is read stands before what is refused, and what isn't built yet is unexpected where it begins.
-static UNREADABLE: [(&str, &str); 17] = [
+static UNREADABLE: [(&str, &str); 19] = [
     ("Lemma a : True.done.", "unreadable at 14: unexpected\n"),
     ("Lemma a : 1.", "unreadable at 11: unexpected\n"),
     ("Lemma a : p().", "unreadable at 10: unbound\n"),
@@ -168,9 +194,15 @@ static UNREADABLE: [(&str, &str); 17] = [
         "Predicate p(x) := True. Lemma a : p(1, 2).",
         "unreadable at 40: arity\n",
     ),
-    ("Lemma a : True. iSplit.", "unreadable at 16: unexpected\n"),
+    ("Lemma a : True. iNext.", "unreadable at 16: unexpected\n"),
     ("Lemma a : True. Show.", "unreadable at 16: unexpected\n"),
-    ("iSplit.", "unreadable at 0: unexpected\n"),
+    ("iNext.", "unreadable at 0: unexpected\n"),
+    // terms are those of the goal's variables
+    (
+        "Lemma a : ∃ x, True. iExists x.",
+        "unreadable at 31: unbound\n",
+    ),
+    ("iExists x.", "unreadable at 8: unbound\n"),
     ("Qed", "unreadable at 3: unexpected\n"),
     ("Qed.Qed.", "unreadable at 3: unexpected\n"),
     ("(* *", "unreadable at 4: unexpected\n"),
@@ -212,9 +244,9 @@ fn scripts(rt: HostRuntime) -> Result<(), Fail> {
 }
 
 /// Runs a script that is accepted, and checks the derivation that was written: the lines of its predicates and lemmas.
-fn proves(rt: &impl Abort, alloc: Global, script: &str, lines: &str) -> Result<(), Memory> {
+fn proves(rt: &impl Abort, alloc: Global, script: &[u8], lines: &str) -> Result<(), Memory> {
     let words = words(alloc, "run")?;
-    let mut source = SureSource::new(alloc, script.as_bytes())?;
+    let mut source = SureSource::new(alloc, script)?;
     let mut sink = MemSink::new(alloc, 4096, &[])?;
     let got = top(alloc, &words, &mut source, &mut sink);
     assert_eq!(rt; got, Status::Done);
@@ -224,8 +256,53 @@ fn proves(rt: &impl Abort, alloc: Global, script: &str, lines: &str) -> Result<(
 #[test]
 fn lemmas(rt: HostRuntime) -> Result<(), Fail> {
     for (script, lines) in &PROVED {
-        proves(&rt, rt.alloc(), script, lines)?;
+        proves(&rt, rt.alloc(), script.as_bytes(), lines)?;
     }
+    Ok(())
+}
+
+/// The lemma, as it is printed, is proved by these sentences.
+pub fn is_proved(
+    rt: &impl Abort,
+    alloc: Global,
+    lemma: &[u8],
+    sentences: &[u8],
+) -> Result<(), Memory> {
+    let mut script = Bytes::from_slice(alloc, lemma)?;
+    script.push(b' ')?;
+    script.extend(sentences)?;
+    script.extend(b" Qed.")?;
+    let mut lines = Bytes::from_slice(alloc, lemma)?;
+    lines.extend(b"\naccepted: 1 statements\n")?;
+    let text = std::str::from_utf8(lines.as_slice()).map_err(|_| Memory)?;
+    proves(rt, alloc, script.as_slice(), text)
+}
+
+/// A lemma of so many left sides, each a cell, of which the first is its conclusion, as scripts have it.
+fn wide(alloc: Global, sides: u32) -> Result<Bytes, Memory> {
+    let mut line = Bytes::from_slice(alloc, b"Lemma wide : ")?;
+    for i in 0..sides {
+        line.extend(format!(in alloc; "{i} ↦ 0 -∗ ")?.as_bytes())?;
+    }
+    line.extend("0 ↦ 0.".as_bytes())?;
+    Ok(line)
+}
+
+/// Introduces so many left sides, and proves the conclusion by the first one.
+fn introductions(alloc: Global, sides: u32) -> Result<Bytes, Memory> {
+    let mut sentences = Bytes::new(alloc);
+    for i in 0..sides {
+        sentences.extend(format!(in alloc; "iIntros \"H{i}\". ")?.as_bytes())?;
+    }
+    sentences.extend(b"iExact \"H0\".")?;
+    Ok(sentences)
+}
+
+#[test]
+fn a_lemma_of_sixty_left_sides(rt: HostRuntime) -> Result<(), Fail> {
+    let lemma = wide(rt.alloc(), 60)?;
+    let sentences = introductions(rt.alloc(), 60)?;
+    is_proved(&rt, rt.alloc(), lemma.as_slice(), sentences.as_slice())?;
     Ok(())
 }
 
@@ -237,7 +314,7 @@ fn fails(
     status: Status,
     written: &str,
 ) -> Result<(), Memory> {
-    let script = b"Lemma a : True -* True. iIntros \"H\". iExact \"H\". Qed.";
+    let script = b"Lemma a : True. done. Qed.";
     let words = words(alloc, "run")?;
     let mut source = MemSource::new(alloc, script, failing.0)?;
     let mut sink = MemSink::new(alloc, 1, failing.1)?;
