@@ -9,7 +9,7 @@ use Rattle.pm_proof.specs.Trees.{Tree}
 use Rattle.pm_table.specs.declared.place.Place.{Place}
 use Rattle.pm_table.specs.Outcomes.{Outcome, gives, refused, joined}
 use Rattle.pm_table.specs.Limits.{limit_row, work_at, within_limits, all_within}
-use Rattle.pm_action.specs.Acting.{Answers, Ends, plainly}
+use Rattle.pm_action.specs.Acting.{AnswersOver, EndsOver, plainly}
 use Rattle.pm_action.proofs.Sums.{from_place, none_left}
 
 -- the places before this one are within the limits
@@ -60,10 +60,10 @@ stops_at ps i p row lt at is before =
     ∙ ap (λ qs. joined (gives (take i ps)) (all_within qs)) (from_place ps i p lt at)
     ∙ ap (λ x. joined (gives (take i ps)) (joined x (all_within (drop (suc i) ps)))) (row_refused p (limit_row (work_at p)) row refl is)
 
-pub refuses_at : (ps : List Place) (t : Tree) (i : ℕ) (p : Place) (row : Row) (o : Option Row) (f : StepFault) → i < length ps → p ≡ get_or ps i p → o ≡ limit_row (work_at p) → o ≡ Some row → IsWithinBefore ps i → f ≡ fault.Refused (plainly row) → Ends ps t (Err f)
-refuses_at ps t i p row o f lt at is some before e s w acted =
+pub refuses_at : (ps : List Place) (t : Tree) (i : ℕ) (p : Place) (row : Row) (o : Option Row) (f : StepFault) → i < length ps → p ≡ get_or ps i p → o ≡ limit_row (work_at p) → o ≡ Some row → IsWithinBefore ps i → f ≡ fault.Refused (plainly row) → EndsOver ps t (Err f)
+refuses_at ps t i p row o f lt at is some before e on k s w acted =
     let all : all_within ps ≡ refused (plainly row) = stops_at ps i p row lt at (sym is ∙ some) before in
-    rw e (subst (λ x. Answers s w x (Err (fault.Refused (plainly row)))) (sym all) refl)
+    rw e (subst (λ x. AnswersOver on k s w x (Err (fault.Refused (plainly row)))) (sym all) refl)
 
 all_taken : (ps : List Place) → take (length ps) ps ≡ ps
 all_taken [] = refl
@@ -72,8 +72,8 @@ all_taken (p ∷ ps) = ap (λ qs. p ∷ qs) (all_taken ps)
 end_joined : (ps : List Place) → joined (gives ps) (gives []) ≡ gives ps
 end_joined ps = ap gives (append-nil ps)
 
-pub ends : (ps : List Place) (t : Tree) (i : ℕ) → length ps ≤ i → IsWithinBefore ps i → Ends ps t (Ok (record { goals = ps; proof = t }))
-ends ps t i le before s w acted =
+pub ends : (ps : List Place) (t : Tree) (i : ℕ) → length ps ≤ i → IsWithinBefore ps i → EndsOver ps t (Ok (record { goals = ps; proof = t }))
+ends ps t i le before on k s w acted =
     let i_is : i ≡ length ps = omega (arith, le, before.within) in
     let all : all_within ps ≡ gives ps = (before.is ∙ ap (λ n. joined (gives (take n ps)) (all_within (drop n ps))) i_is) ∙ ap₂ (λ xs ys. joined (gives xs) (all_within ys)) (all_taken ps) (none_left ps) ∙ end_joined ps in
-    subst (λ x. Answers s w x (Ok (record { goals = ps; proof = t }))) (sym all) (refl, acted)
+    subst (λ x. AnswersOver on k s w x (Ok (record { goals = ps; proof = t }))) (sym all) (refl, acted)

@@ -10,7 +10,7 @@ use Rattle.pm_goal.specs.declared.refusal.StepFault.{StepFault}
 use Rattle.pm_goal.specs.declared.refusal.StepFault.TheVariants as fault
 use Rattle.pm_goal.specs.Refusals.{refusal}
 use Rattle.pm_proof.specs.Trees.{Tree, conclusion}
-use Rattle.pm_proof.specs.Known.{Proves, Every}
+use Rattle.pm_proof.specs.Known.{Tables, Proves, Every}
 use Rattle.pm_proof.specs.declared.proof.Parts.{Parts}
 use Rattle.pm_table.specs.declared.place.Place.{Place}
 use Rattle.pm_table.specs.declared.place.Place.TheVariants.{Current as current}
@@ -30,18 +30,26 @@ pub record IsHanded (w : Work) : Type 0 where
   pub scoped : AllByRecursion (ScopedIn (length w.goal.vars)) (work_formulas w)
   pub apart : NamesDiffer w.goal
 
--- a proof of what the work means from what the places mean, by an action on so many nodes
-abbrev pub IsActed : ℕ → Work → List Place → Tree → Type 0
-IsActed s w ps t = Proves Every (meaning w) (meanings ps) (rules_within s) (room w ps) (width w) t
+-- a proof of what the work means from what the places mean, by an action on so many nodes, valid under the tables and in at most
+-- so many variables
+abbrev pub IsActedOver : Tables → (variables s : ℕ) → Work → List Place → Tree → Type 0
+IsActedOver on k s w ps t = Proves on (meaning w) (meanings ps) (rules_within s) (room w ps) k t
 
 -- what an action answers whose outcome this is: want of memory, or the first row that refuses it, or the places with a proof
+abbrev pub AnswersOver : Tables → (variables s : ℕ) → Work → Outcome → Result (Parts Place) StepFault → Type 0
+AnswersOver on k s w (gives ps) (Ok parts) = (parts.goals ≡ ps) × IsActedOver on k s w ps parts.proof
+AnswersOver on k s w (gives ps) (Err (fault.Refused x)) = ⊥
+AnswersOver on k s w (gives ps) (Err fault.Memory) = Unit {0}
+AnswersOver on k s w (refused r) (Ok parts) = ⊥
+AnswersOver on k s w (refused r) (Err (fault.Refused x)) = x ≡ r
+AnswersOver on k s w (refused r) (Err fault.Memory) = Unit {0}
+
+-- under every table, and no wider than what the work has in it
+abbrev pub IsActed : ℕ → Work → List Place → Tree → Type 0
+IsActed s w ps t = IsActedOver Every (width w) s w ps t
+
 abbrev pub Answers : ℕ → Work → Outcome → Result (Parts Place) StepFault → Type 0
-Answers s w (gives ps) (Ok parts) = (parts.goals ≡ ps) × IsActed s w ps parts.proof
-Answers s w (gives ps) (Err (fault.Refused x)) = ⊥
-Answers s w (gives ps) (Err fault.Memory) = Unit {0}
-Answers s w (refused r) (Ok parts) = ⊥
-Answers s w (refused r) (Err (fault.Refused x)) = x ≡ r
-Answers s w (refused r) (Err fault.Memory) = Unit {0}
+Answers s w o r = AnswersOver Every (width w) s w o r
 
 -- the fault of a refusal by the row of what is about the name, or want of memory
 abbrev pub Refuses : Row → List ℕ → StepFault → Type 0
@@ -55,6 +63,9 @@ plainly row = record { row = row; name = None }
 -- ---- ends of actions, whatever is known of the proof
 
 -- these places, where they are within the limits
+abbrev pub EndsOver : List Place → Tree → Result (Parts Place) StepFault → Type 0
+EndsOver ps t r = (on : Tables) (k s : ℕ) (w : Work) → IsActedOver on k s w ps t → AnswersOver on k s w (limited (gives ps)) r
+
 abbrev pub Ends : List Place → Tree → Result (Parts Place) StepFault → Type 0
 Ends ps t r = (s : ℕ) (w : Work) → IsActed s w ps t → Answers s w (limited (gives ps)) r
 

@@ -3,7 +3,7 @@
 ghost use Rattle.std.specs.Prelude.{◌≡◌, ◌∷◌, [], IfOk};
 ghost use Rattle.pm_table.specs.declared.place.Place.TheVariants.{Current as current};
 ghost use Rattle.pm_table.specs.Limits as limits;
-ghost use Rattle.pm_action.specs.Acting.{Ends};
+ghost use Rattle.pm_action.specs.Acting.{Ends, EndsOver};
 
 use crate::limits::limit_row;
 use crate::refusing::refuse_plain;
@@ -23,9 +23,14 @@ fn place_row(alloc: Global, place: &Place) -> Result<Option<Row>, Memory>
     }
 }
 
-/// The places with this proof, or the first limit that one of them passes, or want of memory.
-pub fn finish(alloc: Global, places: List<Place>, proof: Proof) -> Result<Parts<Place>, StepFault>
-    ensures { Ends places proof result }
+/// The places with this proof, whatever tables it is valid under and however wide it is, or the first limit that one of them
+/// passes, or want of memory.
+pub fn finish_over(
+    alloc: Global,
+    places: List<Place>,
+    proof: Proof,
+) -> Result<Parts<Place>, StepFault>
+    ensures { EndsOver places proof result }
 {
     for place in places.as_slice() {
         if let Some(row) = place_row(alloc, place)? {
@@ -36,6 +41,13 @@ pub fn finish(alloc: Global, places: List<Place>, proof: Proof) -> Result<Parts<
         goals: places,
         proof,
     })
+}
+
+/// The places with this proof, or the first limit that one of them passes, or want of memory.
+pub fn finish(alloc: Global, places: List<Place>, proof: Proof) -> Result<Parts<Place>, StepFault>
+    ensures { Ends places proof result }
+{
+    finish_over(alloc, places, proof)
 }
 
 /// No work is left.

@@ -11,7 +11,7 @@ mod naming;
 mod refusing;
 
 pub use contexts::{facts_but, hyps_but, last, last_place, others, with_held};
-pub use finishing::{finish, finish_closed, finish_one, finish_two};
+pub use finishing::{finish, finish_closed, finish_one, finish_over, finish_two};
 pub use limits::{MOST, limit_row};
 pub use moving::{by_move, unmoved, wanted, wanted_of_goal};
 pub use naming::{fresh_name, is_free};
