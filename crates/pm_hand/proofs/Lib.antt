@@ -11,3 +11,4 @@ pub mod Contradicted
 pub mod Known
 pub mod Handing
 pub mod Takes
+pub mod Openings

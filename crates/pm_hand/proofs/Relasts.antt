@@ -32,7 +32,7 @@ use Rattle.pm_action.proofs.Sums.{nodes_append, depth_append}
 use Rattle.pm_action.proofs.Filtered.{in_hand}
 use Rattle.pm_action.proofs.Hands.{with_last_is, held_is, without_last, part_last, star_is}
 use Rattle.pm_action.proofs.Moves.{moves_by_answer}
-use Rattle.pm_hand.specs.Changed.{dropped, relast, last_says, BecomesOne}
+use Rattle.pm_hand.specs.Changed.{dropped, relast, last_says, Becomes, BecomesOne}
 use Rattle.pm_hand.proofs.Names.{moved_gives}
 
 -- ---- something is last in hand
@@ -129,11 +129,15 @@ says_scoped w l is k f preds e hs = (
 
 pub becomes : (w : Work) (l : Held) (k : Kind) (f : Formula) (new : Work) (by t : Tree) (r : Result (Parts Place) StepFault)
     → IsLast w l → conclusion by ≡ last_says w l k f → new ≡ relast w k f
-    → MovesBy by (length w.goal.vars) (length (work_parts w)) (left_of_work w) (left_of_work (relast w k f)) t → MovesTo w new t r → BecomesOne w (relast w k f) by r
-becomes w l k f new by t r is says new_is m to n d known fit deep =
-    moves_by_answer (all_nodes (work_formulas w)) n d w (relast w k f) by t r (le_refl (all_nodes (work_formulas w))) m known fit deep
+    → MovesBy by (length w.goal.vars) (length (work_parts w)) (left_of_work w) (left_of_work (relast w k f)) t → MovesTo w new t r → Becomes w (relast w k f) by r
+becomes w l k f new by t r is says new_is m to s n d le known fit deep =
+    moves_by_answer s n d w (relast w k f) by t r le m known fit deep
     (λ preds e hs. subst (EntailScoped preds) (sym says) (says_scoped w l is k f preds e hs))
     (subst (λ x. MovesTo w x t r) new_is to)
+
+-- on the nodes of the old work
+pub alone : (w new : Work) (by : Tree) (r : Result (Parts Place) StepFault) → Becomes w new by r → BecomesOne w new by r
+alone w new by r b n d known fit deep = b (all_nodes (work_formulas w)) n d (le_refl (all_nodes (work_formulas w))) known fit deep
 
 -- ---- how large it is
 

@@ -3,13 +3,17 @@ use Rattle.std.specs.Prelude.{◌≡◌, ℕ, ◌+◌, ◌*◌, ◌≤◌, max, 
 use Rattle.pm_logic.specs.declared.formula.Pure.{Pure}
 use Rattle.pm_logic.specs.declared.formula.Formula.{Formula}
 use Rattle.pm_logic.specs.declared.formula.Formula.TheViews as view
+use Rattle.pm_logic.specs.declared.formula.Term.{Term}
+use Rattle.pm_logic.specs.declared.formula.Preds.{Preds}
+use Rattle.pm_logic.specs.Scope.{Scoped}
+use Rattle.pm_logic.specs.Substitution.{opened_of}
 use Rattle.pm_logic.specs.Size.{depth_of}
 use Rattle.pm_goal.specs.declared.goal.Goal.{Goal}
 use Rattle.pm_goal.specs.declared.work.Kind.{Kind}
 use Rattle.pm_goal.specs.declared.work.Kind.TheVariants.{Int, Spat}
 use Rattle.pm_goal.specs.declared.work.Held.{Held}
 use Rattle.pm_goal.specs.declared.work.Work.{Work}
-use Rattle.pm_goal.specs.declared.refusal.Row.TheVariants.{NotPersistent}
+use Rattle.pm_goal.specs.declared.refusal.Row.TheVariants.{NotPersistent, NotUniversal}
 use Rattle.pm_goal.specs.declared.refusal.StepFault.{StepFault}
 use Rattle.pm_goal.specs.Left.{of_kind, left_of_work}
 use Rattle.pm_rules.specs.declared.rules.Entail.{Entail}
@@ -18,8 +22,9 @@ use Rattle.pm_proof.specs.Known.{Proves, Extends, Every}
 use Rattle.pm_proof.specs.declared.proof.Parts.{Parts}
 use Rattle.pm_table.specs.declared.place.Place.{Place}
 use Rattle.pm_table.specs.declared.place.Place.TheVariants.{Current as current}
+use Rattle.pm_schemes.specs.Sketches.{deepest}
 use Rattle.pm_star.specs.Stars.{work_parts}
-use Rattle.pm_classes.specs.Classes.{into_persistent}
+use Rattle.pm_classes.specs.Classes.{into_persistent, into_forall}
 use Rattle.pm_table.specs.Outcomes.{Outcome, gives, one, require_entry}
 use Rattle.pm_table.specs.Limits.{limited, all_nodes, work_formulas}
 use Rattle.pm_table.specs.Works.{Named, with_hyp, with_fact, without_named, holding, work_of}
@@ -55,7 +60,11 @@ less w name = work_of (without_named name w.goal) w.held
 abbrev pub GivesOne : Work → Work → Result (Parts Place) StepFault → Type 0
 GivesOne w new r = Answers (all_nodes (work_formulas w)) w (limited (gives (current [] new ∷ []))) r
 
--- the same from a proof that is put in, within these bounds
+-- the same from a proof that is put in, within these bounds, of an action on so many nodes
+abbrev pub Becomes : Work → Work → Tree → Result (Parts Place) StepFault → Type 0
+Becomes w new by r = (s n d : ℕ) → all_nodes (work_formulas w) ≤ s → Proves Every (conclusion by) [] n d (width w) by → n ≤ 800 * suc s → d ≤ room w (current [] new ∷ []) → Answers s w (limited (gives (current [] new ∷ []))) r
+
+-- on nodes of the old work alone
 abbrev pub BecomesOne : Work → Work → Tree → Result (Parts Place) StepFault → Type 0
 BecomesOne w new by r = (n d : ℕ) → Proves Every (conclusion by) [] n d (width w) by → n ≤ 800 * suc (all_nodes (work_formulas w)) → d ≤ room w (current [] new ∷ []) → GivesOne w new r
 
@@ -74,6 +83,16 @@ FromStar w f t = Proves Every (entail (length w.goal.vars) (left_of_work w) f) [
 -- a spatial one that is persistent, under the box
 abbrev pub boxing : Work → Held → Outcome
 boxing w l = require_entry (into_persistent l.formula) NotPersistent (λ g. one (relast w Int g))
+
+-- a universal, opened with the term
+abbrev pub opening : Work → Held → Term → Outcome
+opening w l t = require_entry (into_forall l.formula) NotUniversal (λ b. one (relast w l.kind (opened_of b t)))
+
+-- from what is in hand to the body b of the universal, opened with the term, by a proof of the universal that is put in; what is
+-- scoped of the universal is shown where it is known
+pub record IsOpened (k : ℕ) (kind : Kind) (f b : Formula) (t : Term) (by p : Tree) : Type 0 where
+  pub concludes : conclusion p ≡ entail k (of_kind kind f) (of_kind kind (opened_of b t))
+  pub proves : (n d q : ℕ) → Proves Every (conclusion by) [] n d q by → ((preds : Preds) → Scoped preds k f → Scoped preds k (view.All b)) → k ≤ q → deepest (f ∷ view.All b ∷ opened_of b t ∷ []) [] + 1 ≤ d → Proves Every (conclusion p) [] (n + 3) d q p
 
 -- from the star to that of the new work, around a proof that is put in, which isn't deeper than the two works allow
 pub record LeadsBy (w new : Work) (by t : Tree) : Type 0 where

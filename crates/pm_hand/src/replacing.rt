@@ -5,7 +5,7 @@ ghost use Rattle.pm_goal.specs.Left.{left_of_work, of_kind};
 ghost use Rattle.pm_proof.specs.Trees.{conclusion};
 ghost use Rattle.pm_star.specs.Stars.{work_parts, MovesBy};
 ghost use Rattle.pm_action.specs.Acting.{IsHanded, IsLast, StaysAs};
-ghost use Rattle.pm_hand.specs.Changed.{relast, last_says, BecomesOne};
+ghost use Rattle.pm_hand.specs.Changed.{relast, last_says, Becomes};
 
 use pm_action::{by_move, last_place, others, unmoved, with_held};
 use pm_goal::{Held, Kind, StepFault, Work, copy_goal, copy_work};
@@ -68,7 +68,7 @@ pub fn become_one(
     requires some { 0 < length work.now.held }
     requires last { IsLast work.now held.now }
     requires says { conclusion by ≡ last_says work.now held.now kind formula }
-    ensures { BecomesOne work.now (relast work.now kind formula) by result }
+    ensures { Becomes work.now (relast work.now kind formula) by result }
 {
     let moved = exchanged(alloc, work, held, kind, &formula, by)?;
     let new = relast(alloc, work, kind, formula)?;
