@@ -1,0 +1,9 @@
+pub mod Parts
+pub mod Units
+pub mod Starred
+pub mod Two
+pub mod Holes
+pub mod RestScoped
+pub mod Binding
+pub mod Quantifying
+pub mod Arms

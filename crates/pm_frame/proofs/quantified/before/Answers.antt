@@ -1,0 +1,5 @@
+use Rattle.pm_frame.proofs.Binding.{before_scoped}
+use Rattle.pm_frame.proofs.quantified.before.Goals as goal
+
+pub close_where-requires-clause-scoped : goal.close_where-requires-clause-scoped
+close_where-requires-clause-scoped c = before_scoped c.args.vars c.args.s.now c.args.a.now c.args.q.now c.args.x.now c.args.first c.args.second c.requires.some c.requires.quantified c.requires.first c.requires.second
