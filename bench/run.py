@@ -2,10 +2,10 @@
 """Measures `run`: seconds, megabytes of script a second and peak memory on generated scripts, each in four sizes, of
 which the next is twice the one before: where time is linear, so are the seconds.
 
-Then it measures single lemmas, with `check` on the derivation of each: stars of 5 to 60 cells that are taken apart and
-dealt out again, and one of 10,000 directives. Behind those of a kind it prints how bytes and seconds grow with the size,
-as exponents of it, and what of the limits isn't kept: at 60 cells both run for under 0.5 seconds, the derivation has at
-most 30 MB, and bytes grow with the cube of the size at most.
+Then it measures lemmas, with `check` on the derivation of each: stars of 5 to 60 cells that are taken apart and dealt out
+again, or framed, up to 40 lemmas of framed stars of 2 to 21 cells, and one of 10,000 directives. Behind those of a kind it
+prints how bytes and seconds grow with the size, as exponents of it, and what of the limits isn't kept: how long both run
+for the largest size, that the derivation of a star has at most 30 MB, and that bytes grow with the cube of the size at most.
 
 Run it at the top of the repository, after the program was built (./mosel does that), or name a program; --lemmas leaves
 out the scripts that are measured first:
@@ -126,6 +126,25 @@ def dealt(cells):
     yield b'iExact "%s". Qed.\n' % names[0]
 
 
+def framed_lemma(first, cells):
+    """A star of so many cells, which is framed, cell by cell, in the star that stands the other way round."""
+    star = [b"%d |-> %d" % (first + j, j) for j in range(cells)]
+    names = [b"H%d" % j for j in range(cells)]
+    yield b"Lemma g%d : %s |- %s.\n" % (first, b" * ".join(star), b" * ".join(reversed(star)))
+    yield b'iIntros "(%s)". iFrame. Qed.\n' % b" & ".join(names)
+
+
+def framed(cells):
+    """One such star."""
+    yield from framed_lemma(0, cells)
+
+
+def generated(lemmas):
+    """So many lemmas of such stars, of 2 to 21 cells by turns."""
+    for n in range(lemmas):
+        yield from framed_lemma(n, n % 20 + 2)
+
+
 def reverted(directives):
     """So many directives, an even number: a hypothesis comes and goes."""
     yield b"Lemma reverted : 1 |-> 2 |- 1 |-> 2.\n"
@@ -135,10 +154,15 @@ def reverted(directives):
     yield b'iExact "H". Qed.\n'
 
 
-LEMMAS = {dealt: (5, 10, 20, 40, 60), reverted: (1_250, 2_500, 5_000, 10_000)}
+LEMMAS = {
+    dealt: (5, 10, 20, 40, 60),
+    framed: (5, 10, 20, 40, 60),
+    generated: (10, 20, 40),
+    reverted: (1_250, 2_500, 5_000, 10_000),
+}
 
-# of the largest star
-MOST_SECONDS = 0.5
+# of the largest size
+MOST_SECONDS = {dealt: 0.5, framed: 1, generated: 0.3}
 MOST_MB = 30
 MOST_GROWTH = 3
 
@@ -189,7 +213,7 @@ def prove(program, kind, size):
     check_seconds, checked, check_peak = run_to([program, "check"], derivation, answer)
     with open(answer, "rb") as text:
         last = text.read().splitlines()[-1].decode()
-    if last != "accepted: 1 statements":
+    if last != f"accepted: {size if kind is generated else 1} statements":
         sys.exit(f"{kind.__name__} {size}: {last}")
     return os.path.getsize(derivation), run_seconds + check_seconds, ran, checked, max(run_peak, check_peak)
 
@@ -200,12 +224,12 @@ def exponent(rows, column):
     return math.log(max(last[column], 1e-3) / max(first[column], 1e-3)) / math.log(last[0] / first[0])
 
 
-def beyond(rows):
-    """What of the limits the largest star doesn't keep."""
+def beyond(kind, rows):
+    """What of the limits the largest size doesn't keep."""
     _, written, busy = rows[-1]
     growth = exponent(rows, 1)
-    if busy >= MOST_SECONDS:
-        yield f"runs for {busy:.3f} seconds, and under {MOST_SECONDS} are wanted"
+    if busy >= MOST_SECONDS[kind]:
+        yield f"runs for {busy:.3f} seconds, and under {MOST_SECONDS[kind]} are wanted"
     if written > MOST_MB * 1e6:
         yield f"has {written / 1e6:.1f} MB of derivation, and at most {MOST_MB} are wanted"
     if growth > MOST_GROWTH:
@@ -223,8 +247,8 @@ def lemmas(program):
             print(f"{kind.__name__:<12} {size:>6} {written / 1e6:>8.3f} {seconds:>8.3f} {ran:>8.3f} {checked:>9.3f} {written / 1e6 / max(busy, 1e-3):>7.1f} {peak / 1e6:>8.1f}", flush=True)
         grown = ", ".join(f"{name} {exponent(rows, column):.2f}" for column, name in ((1, "bytes"), (2, "seconds run")))
         print(f"{kind.__name__:<12} grows with the size to the power of: {grown}")
-        if kind is dealt:
-            for line in beyond(rows):
+        if kind in MOST_SECONDS:
+            for line in beyond(kind, rows):
                 print(f"{kind.__name__:<12} {line}")
 
 

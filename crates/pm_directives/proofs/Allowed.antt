@@ -84,19 +84,20 @@ spat_run f p1 p ps is same = ap (λ x. destruct x ps) (is ∙ ap view.Spat (sym 
 
 -- ---- what isn't built
 
-pub not_built : (f : Pat) → ((h : List ℕ) → f ≡ pat.Name h → ⊥) → (f ≡ pat.Fresh → ⊥) → (f ≡ pat.Drop → ⊥) → ((p q : Pat) → f ≡ view.Pair p q → ⊥) → ((p q : Pat) → f ≡ view.Either p q → ⊥) → (f ≡ pat.Absurd → ⊥) → ((h : List ℕ) → f ≡ pat.PureName h → ⊥) → (f ≡ pat.PureFresh → ⊥) → ((p : Pat) → f ≡ view.Int p → ⊥) → ((p : Pat) → f ≡ view.Spat p → ⊥) → is_built_pattern f ≡ false
+pub not_built : (f : Pat) → ((h : List ℕ) → f ≡ pat.Name h → ⊥) → (f ≡ pat.Fresh → ⊥) → (f ≡ pat.Drop → ⊥) → (f ≡ pat.Frame → ⊥) → ((p q : Pat) → f ≡ view.Pair p q → ⊥) → ((p q : Pat) → f ≡ view.Either p q → ⊥) → (f ≡ pat.Absurd → ⊥) → ((h : List ℕ) → f ≡ pat.PureName h → ⊥) → (f ≡ pat.PureFresh → ⊥) → ((p : Pat) → f ≡ view.Int p → ⊥) → ((p : Pat) → f ≡ view.Spat p → ⊥) → is_built_pattern f ≡ false
 unfolding is_built_pattern
-not_built (pat.Name h) name fresh drop pair either none pure_name pure int spat = absurd (name h refl)
-not_built pat.Fresh name fresh drop pair either none pure_name pure int spat = absurd (fresh refl)
-not_built pat.Drop name fresh drop pair either none pure_name pure int spat = absurd (drop refl)
-not_built (tree.Pair p q) name fresh drop pair either none pure_name pure int spat = absurd (pair p q (sym (view_pair p q)))
-not_built (tree.Either p q) name fresh drop pair either none pure_name pure int spat = absurd (either p q (sym (view_either p q)))
-not_built pat.Absurd name fresh drop pair either none pure_name pure int spat = absurd (none refl)
-not_built (pat.PureName h) name fresh drop pair either none pure_name pure int spat = absurd (pure_name h refl)
-not_built pat.PureFresh name fresh drop pair either none pure_name pure int spat = absurd (pure refl)
-not_built (tree.Int p) name fresh drop pair either none pure_name pure int spat = absurd (int p (sym (view_int p)))
-not_built (tree.Spat p) name fresh drop pair either none pure_name pure int spat = absurd (spat p (sym (view_spat p)))
-not_built f name fresh drop pair either none pure_name pure int spat = refl
+not_built (pat.Name h) name fresh drop frame pair either none pure_name pure int spat = absurd (name h refl)
+not_built pat.Fresh name fresh drop frame pair either none pure_name pure int spat = absurd (fresh refl)
+not_built pat.Drop name fresh drop frame pair either none pure_name pure int spat = absurd (drop refl)
+not_built pat.Frame name fresh drop frame pair either none pure_name pure int spat = absurd (frame refl)
+not_built (tree.Pair p q) name fresh drop frame pair either none pure_name pure int spat = absurd (pair p q (sym (view_pair p q)))
+not_built (tree.Either p q) name fresh drop frame pair either none pure_name pure int spat = absurd (either p q (sym (view_either p q)))
+not_built pat.Absurd name fresh drop frame pair either none pure_name pure int spat = absurd (none refl)
+not_built (pat.PureName h) name fresh drop frame pair either none pure_name pure int spat = absurd (pure_name h refl)
+not_built pat.PureFresh name fresh drop frame pair either none pure_name pure int spat = absurd (pure refl)
+not_built (tree.Int p) name fresh drop frame pair either none pure_name pure int spat = absurd (int p (sym (view_int p)))
+not_built (tree.Spat p) name fresh drop frame pair either none pure_name pure int spat = absurd (spat p (sym (view_spat p)))
+not_built f name fresh drop frame pair either none pure_name pure int spat = refl
 
 pub built_never : {A : Type 0} (f : Pat) → is_built_pattern f ≡ false → IsBuiltPattern f → A
 built_never f e h = absurd cc
@@ -195,7 +196,7 @@ pub well_placed : (directive : Directive) → IsBuilt directive → is_well_plac
 unfolding is_well_placed
 well_placed (d.Intros pats) h = items pats h
 well_placed (d.Destruct t p) h = inner p (both_true _ _ h).1
-well_placed (d.PoseProof t p) h = absurd cc
+well_placed (d.PoseProof t p) h = inner p (both_true _ _ h).1
 well_placed (d.Specialize t) h = refl
 well_placed (d.Apply t) h = refl
 well_placed (d.Assert f s p) h = absurd cc

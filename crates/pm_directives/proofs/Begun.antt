@@ -49,6 +49,12 @@ cleared what g w names s result is named b f =
     (subst (λ xs. ReplacesWork w (for_each (each_action each.Clear) xs w) result) named
     (from_start w s (in_order (λ h. act (each_action each.Clear h)) names) result b f))
 
+pub framed : (what : Alone) (g : Group) (w : Work) (names : List Named) (s : Parts Place) (result : Result (Parts Place) StepFault) → what ≡ alone.Frame g → names ≡ group_names g w.goal → Begins w s → Follows s (in_order (λ h. act (each_action each.Frame h)) names s.goals) result → ReplacesWork w (alone_run what w) result
+framed what g w names s result is named b f =
+    subst (λ x. ReplacesWork w (alone_run x w) result) (sym is)
+    (subst (λ xs. ReplacesWork w (for_each (each_action each.Frame) xs w) result) named
+    (from_start w s (in_order (λ h. act (each_action each.Frame h)) names) result b f))
+
 pub reverted : (what : Alone) (g : Group) (w : Work) (names : List Named) (s : Parts Place) (result : Result (Parts Place) StepFault) → what ≡ alone.Revert g → names ≡ group_names g w.goal → Begins w s → Follows s (in_order (λ h. act (each_action each.Revert h)) (reverse names) s.goals) result → ReplacesWork w (alone_run what w) result
 reverted what g w names s result is named b f =
     subst (λ x. ReplacesWork w (alone_run x w) result) (sym is)

@@ -3,6 +3,6 @@ pub mod Begun
 pub mod Named
 pub mod Fronts
 pub mod Allowed
-pub mod Bare
 pub mod Variables
 pub mod Ended
+pub mod Held

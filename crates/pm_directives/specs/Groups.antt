@@ -6,6 +6,7 @@ use Rattle.pm_table.specs.Outcomes.{Action}
 use Rattle.pm_table.specs.Works.{Named}
 use Rattle.pm_table.specs.Running.{Run, for_each}
 use Rattle.pm_table.specs.Basic.{on_goal, clear, revert}
+use Rattle.pm_table.specs.Terms.{frame_member}
 use Rattle.pm_table.specs.Patterns.{fact_names, int_names, spat_names, intro_alls, intro_premises}
 use Rattle.pm_directives.specs.declared.groups.Group.{Group}
 use Rattle.pm_directives.specs.declared.groups.Group.TheVariants as group
@@ -22,10 +23,12 @@ group_names group.Spats goal = spat_names goal
 abbrev pub each_action : Each → Named → Action
 each_action each.Clear h = on_goal (clear h)
 each_action each.Revert h = on_goal (revert h)
+each_action each.Frame h = frame_member h
 
 abbrev pub alone_run : Alone → Work → Run
 alone_run (alone.Clear g) w = for_each (each_action each.Clear) (group_names g w.goal) w
 alone_run (alone.Revert g) w = for_each (each_action each.Revert) (reverse (group_names g w.goal)) w
+alone_run (alone.Frame g) w = for_each (each_action each.Frame) (group_names g w.goal) w
 alone_run alone.Alls w = intro_alls w
 alone_run alone.AllsWands w = intro_premises w
 

@@ -1,5 +1,5 @@
 -- What the code of a directive and of a step answers.
-use Rattle.std.specs.Prelude.{◌≡◌, ℕ, List, map, length, Result, Ok, Err}
+use Rattle.std.specs.Prelude.{◌≡◌, ℕ, Bool, List, [], map, length, Result, Ok, Err}
 use Rattle.std.specs.List.{AllByRecursion}
 use Rattle.pm_logic.specs.declared.formula.Term.{Term}
 use Rattle.pm_logic.specs.declared.formula.Preds.{Preds}
@@ -7,8 +7,8 @@ use Rattle.pm_goal.specs.declared.goal.Goal.{Goal}
 use Rattle.pm_goal.specs.declared.work.Lemmas.{Lemmas}
 use Rattle.pm_goal.specs.declared.refusal.StepFault.{StepFault}
 use Rattle.pm_goal.specs.declared.refusal.StepFault.TheVariants as fault
+use Rattle.pm_patterns.specs.declared.pattern.Head.{Head}
 use Rattle.pm_patterns.specs.declared.pattern.ProofTerm.{ProofTerm}
-use Rattle.pm_patterns.specs.declared.pattern.Pat.{Pat}
 use Rattle.pm_proof.specs.Known.{Proves, Every}
 use Rattle.pm_proof.specs.Valid.{TermFits}
 use Rattle.pm_proof.specs.declared.proof.Parts.{Parts}
@@ -16,9 +16,8 @@ use Rattle.pm_script.specs.declared.directive.Directive.{Directive}
 use Rattle.pm_script.specs.declared.directive.Directive.TheVariants as d
 use Rattle.pm_table.specs.declared.place.Place.{Place}
 use Rattle.pm_table.specs.Limits.{resting, work_at}
-use Rattle.pm_table.specs.Running.{after}
-use Rattle.pm_table.specs.Patterns.{destruct_all}
-use Rattle.pm_table.specs.Directives.{Stepped, goals, refused, run, step, step_rules, term_run, is_bare}
+use Rattle.pm_table.specs.Running.{Run, after}
+use Rattle.pm_table.specs.Directives.{Stepped, goals, refused, run, step, step_rules, head_run, term_run}
 use Rattle.pm_table.specs.Stepping.{Each}
 use Rattle.pm_action.specs.Meanings.{meaning}
 use Rattle.pm_sweep.specs.Standing.{IsFit, Follows, DEEPEST, WIDEST}
@@ -28,8 +27,15 @@ use Rattle.pm_table.specs.Scopes.{IsWorkScoped}
 abbrev pub FollowsTable : Directive → Parts Place → Result (Parts Place) StepFault → Type 0
 FollowsTable directive old result = (preds : Preds) (lemmas : Lemmas) → Follows old (run preds lemmas directive old.goals) result
 
-abbrev pub TakesApart : ProofTerm → Pat → Parts Place → Result (Parts Place) StepFault → Type 0
-TakesApart t p old result = (lemmas : Lemmas) → Follows old (after (term_run lemmas (is_bare t) t old.goals) (destruct_all p)) result
+-- the head of a proof term that is a hypothesis, which is taken or lent; the whole term; the term, and a pattern for what it holds
+abbrev pub HoldsHead : (taken : Bool) → Head → Parts Place → Result (Parts Place) StepFault → Type 0
+HoldsHead taken h old result = (lemmas : Lemmas) → Follows old (head_run lemmas taken h old.goals) result
+
+abbrev pub HoldsTerm : (taken : Bool) → ProofTerm → Parts Place → Result (Parts Place) StepFault → Type 0
+HoldsTerm taken t old result = (lemmas : Lemmas) → Follows old (term_run lemmas taken t old.goals) result
+
+abbrev pub ThenFollows : (taken : Bool) → ProofTerm → (List Place → Run) → Parts Place → Result (Parts Place) StepFault → Type 0
+ThenFollows taken t follows old result = (lemmas : Lemmas) → Follows old (after (term_run lemmas taken t old.goals) follows) result
 
 -- ---- terms that are handed in
 
@@ -42,13 +48,19 @@ pub record TermsFitAll (ts : List Term) (ps : List Place) : Type 0 where
   pub same : AllVariables vars ps
   pub fit : AllByRecursion (TermFits vars) ts
 
+-- those that a directive hands to its actions
+abbrev pub terms_of : Directive → List Term
+terms_of (d.Exists ts) = ts
+terms_of (d.Destruct t p) = t.terms
+terms_of (d.PoseProof t p) = t.terms
+terms_of (d.Specialize t) = t.terms
+terms_of _ = []
+
 abbrev pub DirectiveFits : Directive → List Place → Type 0
-DirectiveFits (d.Exists ts) ps = TermsFitAll ts ps
-DirectiveFits _ ps = Unit {0}
+DirectiveFits directive ps = TermsFitAll (terms_of directive) ps
 
 abbrev pub FitsGoal : Directive → Goal → Type 0
-FitsGoal (d.Exists ts) goal = AllByRecursion (TermFits (length goal.vars)) ts
-FitsGoal _ goal = Unit {0}
+FitsGoal directive goal = AllByRecursion (TermFits (length goal.vars)) (terms_of directive)
 
 -- ---- a step
 

@@ -35,7 +35,7 @@ fn is_built_pattern(pat: &Pat) -> bool
             let spatial = a.get();
             is_built_pattern(spatial)
         }
-        Pat::Name(_) | Pat::Fresh | Pat::Drop => true,
+        Pat::Name(_) | Pat::Fresh | Pat::Drop | Pat::Frame => true,
         Pat::Absurd | Pat::PureName(_) | Pat::PureFresh => true,
         _ => false,
     }
@@ -64,7 +64,7 @@ fn is_built_term(term: &ProofTerm) -> bool
     ensures { result ≡ is_built_term term.now }
 {
     match &term.head {
-        Head::Hyp(_) => term.terms.len() == 0 && term.spats.len() == 0,
+        Head::Hyp(_) => term.spats.len() == 0,
         Head::Lemma(_) => false,
     }
 }
@@ -75,11 +75,14 @@ pub fn is_built(directive: &Directive) -> bool
 {
     match directive {
         Directive::Intros(pats) => are_built_intros(pats.as_slice()),
-        Directive::Destruct(term, pat) => is_built_term(term) && is_built_pattern(pat),
+        Directive::Destruct(term, pat) | Directive::PoseProof(term, pat) => {
+            is_built_term(term) && is_built_pattern(pat)
+        }
+        Directive::Specialize(term) => is_built_term(term),
         Directive::Split | Directive::SplitL(_) | Directive::SplitR(_) => true,
         Directive::Left | Directive::Right | Directive::Exists(_) => true,
         Directive::Exact(_) | Directive::Assumption | Directive::ExFalso => true,
-        Directive::Done | Directive::Clear(_) => true,
+        Directive::Done | Directive::Clear(_) | Directive::Frame(_) => true,
         Directive::Rename(_, _) | Directive::Revert(_, _) => true,
         _ => false,
     }

@@ -2,24 +2,28 @@
 
 ghost use Rattle.pm_table.specs.Directives as table;
 ghost use Rattle.pm_table.specs.Basic.{on_goal, exists};
-ghost use Rattle.pm_table.specs.Running.{in_order, act_with};
+ghost use Rattle.pm_table.specs.Destructs.{name_held};
+ghost use Rattle.pm_table.specs.Running.{in_order, act as act_all, act_with};
 ghost use Rattle.pm_table.specs.Patterns as patterns;
 ghost use Rattle.pm_logic.specs.Size.{term_nodes};
 ghost use Rattle.pm_directives.specs.Built.{IsBuilt, IsBuiltPattern, is_built_term};
-ghost use Rattle.std.specs.Prelude.{IsTrue};
+ghost use Rattle.std.specs.Prelude.{true, IsTrue};
 ghost use Rattle.pm_sweep.specs.declared.act.Act.TheVariants as act;
 ghost use Rattle.pm_sweep.specs.Acts.{changing, handed_to_change};
 ghost use Rattle.pm_sweep.specs.Standing.{IsStanding, IsHandedToAll, Follows};
-ghost use Rattle.pm_directives.specs.Steps.{TakesApart, FollowsTable, TermsFitAll, DirectiveFits};
+ghost use Rattle.pm_directives.specs.Steps.{ThenFollows, FollowsTable, TermsFitAll, DirectiveFits};
 
-use crate::introducing::{clear_all, intro_each, revert_all, revert_vars};
+use crate::holding::{hold, is_bare};
+use crate::introducing::{
+    clear_all, frame_all, frame_spatial, intro_each, revert_all, revert_vars,
+};
 use crate::patterns::destruct;
 use pm_goal::StepFault;
-use pm_logic::{Name, Term};
+use pm_logic::{List, Name, Term};
 use pm_patterns::{Head, Pat, ProofTerm, Sel};
 use pm_proof::Parts;
 use pm_script::Directive;
-use pm_sweep::{Act, Changing, Entering, Turn, sweep, with_turn_each};
+use pm_sweep::{Act, Changing, Handling, Turn, sweep, with_turn_each};
 use pm_table::Place;
 use std::alloc::Global;
 
@@ -57,25 +61,57 @@ fn destruct_all(alloc: Global, standing: Parts<Place>, pat: &Pat) -> Result<Part
     destruct(alloc, pat, Parts { goals, proof })
 }
 
-/// A bare hypothesis is taken, and the pattern destructs it.
+/// What the term gives is in hand, and the pattern destructs it.
 fn take_apart(
     alloc: Global,
     standing: Parts<Place>,
     term: &ProofTerm,
+    taken: bool,
     pat: &Pat,
 ) -> Result<Parts<Place>, StepFault>
     requires term { IsTrue (is_built_term term.now) }
     requires pattern { IsBuiltPattern pat.now }
     requires standing { IsStanding standing }
-    ensures { TakesApart term.now pat.now standing result }
+    requires terms { TermsFitAll term.now.terms standing.goals }
+    ensures { ThenFollows taken term.now (patterns.destruct_all pat.now) standing result }
 {
+    let held = hold(alloc, standing, term, taken)?;
+    destruct_all(alloc, held, pat)
+}
+
+/// What the term gives has the name of its head.
+fn specialize(
+    alloc: Global,
+    standing: Parts<Place>,
+    term: &ProofTerm,
+) -> Result<Parts<Place>, StepFault>
+    requires term { IsTrue (is_built_term term.now) }
+    requires standing { IsStanding standing }
+    requires terms { TermsFitAll term.now.terms standing.goals }
+    ensures { ThenFollows true term.now (act_all (name_held (table.head_name term.now.head))) standing result }
+{
+    let held = hold(alloc, standing, term, true)?;
     match &term.head {
         Head::Hyp(name) => {
-            let act = Act::Enter(Entering::Take(name));
-            let held = sweep(alloc, standing, Turn::Every, act)?;
-            destruct_all(alloc, held, pat)
+            let act = Act::Handle(Handling::Name(name));
+            sweep(alloc, held, Turn::Every, act)
         }
         Head::Lemma(_) => unreachable!(),
+    }
+}
+
+/// What is selected is framed; where no list is given, all spatial hypotheses.
+fn frame(
+    alloc: Global,
+    standing: Parts<Place>,
+    sels: &Option<List<Sel>>,
+) -> Result<Parts<Place>, StepFault>
+    requires { IsStanding standing }
+    ensures { Follows standing (in_order table.frame_selected (table.sels_or_spats sels.now) standing.goals) result }
+{
+    match sels {
+        Some(list) => frame_all(alloc, standing, list.as_slice()),
+        None => frame_spatial(alloc, standing),
     }
 }
 
@@ -119,7 +155,13 @@ pub fn run(
 {
     match directive {
         Directive::Intros(pats) => intro_each(alloc, standing, pats.as_slice()),
-        Directive::Destruct(term, pat) => take_apart(alloc, standing, term, pat),
+        Directive::Destruct(term, pat) => {
+            let taken = is_bare(term);
+            take_apart(alloc, standing, term, taken, pat)
+        }
+        Directive::PoseProof(term, pat) => take_apart(alloc, standing, term, false, pat),
+        Directive::Specialize(term) => specialize(alloc, standing, term),
+        Directive::Frame(sels) => frame(alloc, standing, sels),
         Directive::Split => changed(alloc, standing, Changing::Split),
         Directive::SplitL(names) => changed(alloc, standing, Changing::SplitLeft(names.as_ref())),
         Directive::SplitR(names) => changed(alloc, standing, Changing::SplitRight(names.as_ref())),

@@ -15,7 +15,9 @@ use pm_action::refuse_plain;
 use pm_goal::{Ctx, Facts, Goal, Row, StepFault, Work};
 use pm_logic::{Formula, List, Memory, Name, copy_name, persistent};
 use pm_proof::Parts;
-use pm_sweep::{Act, Changing, Entering, Handling, Turn, append, begin, stay, sweep, with_turns};
+use pm_sweep::{
+    Act, Changing, Entering, Framing, Handling, Turn, append, begin, stay, sweep, with_turns,
+};
 use pm_table::Place;
 use std::alloc::Global;
 
@@ -32,6 +34,7 @@ pub enum Group {
 pub enum Alone {
     Clear(Group),
     Revert(Group),
+    Frame(Group),
     /// `*`
     Alls,
     /// `**`
@@ -43,6 +46,7 @@ pub enum Alone {
 pub enum Each {
     Clear,
     Revert,
+    Frame,
 }
 
 fn push_fact_names(alloc: Global, facts: &Facts, out: &mut List<Name>) -> Result<(), Memory>
@@ -88,7 +92,7 @@ fn group_names(alloc: Global, goal: &Goal, group: Group) -> Result<List<Name>, M
     Ok(out)
 }
 
-/// Clears or reverts what has the name, on all works.
+/// Clears, reverts or frames what has the name, on all works.
 fn change_each(
     alloc: Global,
     standing: Parts<Place>,
@@ -105,6 +109,10 @@ fn change_each(
         }
         Each::Revert => {
             let act = Act::Change(Changing::Revert(name));
+            sweep(alloc, standing, Turn::Every, act)
+        }
+        Each::Frame => {
+            let act = Act::Frame(Framing::Member(name));
             sweep(alloc, standing, Turn::Every, act)
         }
     }
@@ -277,6 +285,11 @@ fn run_alone(alloc: Global, work: &Work, alone: Alone) -> Result<Parts<Place>, S
             let names = group_names(alloc, &work.goal, group)?;
             let start = begin(alloc, work)?;
             for_each_back(alloc, start, Each::Revert, names.as_slice())
+        }
+        Alone::Frame(group) => {
+            let names = group_names(alloc, &work.goal, group)?;
+            let start = begin(alloc, work)?;
+            for_each(alloc, start, Each::Frame, names.as_slice())
         }
         Alone::Alls => alls(alloc, work),
         Alone::AllsWands => alls_wands(alloc, work),

@@ -1,10 +1,11 @@
 //! Introductions, selections and reverting, on all works.
 
-ghost use Rattle.std.specs.Prelude.{reverse, IsTrue};
+ghost use Rattle.std.specs.Prelude.{◌∷◌, [], reverse, IsTrue};
 ghost use Rattle.pm_table.specs.Running.{in_order, act as act_all};
 ghost use Rattle.pm_table.specs.Basic.{on_goal, revert_var};
 ghost use Rattle.pm_table.specs.Patterns as table;
-ghost use Rattle.pm_table.specs.Directives.{revert_selected};
+ghost use Rattle.pm_patterns.specs.declared.pattern.Sel.TheVariants as sel;
+ghost use Rattle.pm_table.specs.Directives.{revert_selected, frame_selected};
 ghost use Rattle.pm_directives.specs.Built.{IsBuiltPattern, is_built_intro, AreBuiltIntros};
 ghost use Rattle.pm_sweep.specs.Standing.{IsStanding, Follows};
 
@@ -14,7 +15,7 @@ use pm_goal::StepFault;
 use pm_logic::Name;
 use pm_patterns::{Pat, Sel};
 use pm_proof::Parts;
-use pm_sweep::{Act, Changing, Entering, Turn, sweep};
+use pm_sweep::{Act, Changing, Entering, Framing, Turn, sweep};
 use pm_table::Place;
 use std::alloc::Global;
 
@@ -163,4 +164,50 @@ pub fn intro_each(
             intro_each(alloc, next, rest)
         }
     }
+}
+
+/// What is selected is framed; of a group what has no rest is passed over.
+fn frame_selected(
+    alloc: Global,
+    standing: Parts<Place>,
+    sel: &Sel,
+) -> Result<Parts<Place>, StepFault>
+    requires { IsStanding standing }
+    ensures { Follows standing (frame_selected sel.now standing.goals) result }
+{
+    match sel {
+        Sel::Name(name) => {
+            let act = Act::Frame(Framing::Named(name));
+            sweep(alloc, standing, Turn::Every, act)
+        }
+        Sel::Pures => each_alone(alloc, standing, Alone::Frame(Group::Facts)),
+        Sel::Ints => each_alone(alloc, standing, Alone::Frame(Group::Ints)),
+        Sel::Spats => each_alone(alloc, standing, Alone::Frame(Group::Spats)),
+    }
+}
+
+/// All that is selected is framed, in order.
+pub fn frame_all(
+    alloc: Global,
+    standing: Parts<Place>,
+    sels: &[Sel],
+) -> Result<Parts<Place>, StepFault>
+    requires { IsStanding standing }
+    ensures { Follows standing (in_order frame_selected sels.now standing.goals) result }
+{
+    match sels {
+        [] => Ok(standing),
+        [sel, rest @ ..] => {
+            let next = frame_selected(alloc, standing, sel)?;
+            frame_all(alloc, next, rest)
+        }
+    }
+}
+
+/// All spatial hypotheses are framed, where one has no rest it is passed over.
+pub fn frame_spatial(alloc: Global, standing: Parts<Place>) -> Result<Parts<Place>, StepFault>
+    requires { IsStanding standing }
+    ensures { Follows standing (in_order frame_selected (sel.Spats ∷ []) standing.goals) result }
+{
+    each_alone(alloc, standing, Alone::Frame(Group::Spats))
 }

@@ -5,6 +5,7 @@
 mod accepting;
 mod directives;
 mod groups;
+mod holding;
 mod introducing;
 mod patterns;
 mod stepping;

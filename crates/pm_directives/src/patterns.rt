@@ -35,6 +35,7 @@ pub fn destruct(alloc: Global, pat: &Pat, standing: Parts<Place>) -> Result<Part
         Pat::Name(name) => turn(alloc, standing, 0, Handling::Name(name)),
         Pat::Fresh => turn(alloc, standing, 0, Handling::NameFresh),
         Pat::Drop => turn(alloc, standing, 0, Handling::Drop),
+        Pat::Frame => turn(alloc, standing, 0, Handling::Frame),
         Pat::Pair(a, b) => {
             let first = a.get();
             let second = b.get();

@@ -16,11 +16,13 @@ use Rattle.pm_tokens.specs.Texts.{tokens}
 use Rattle.pm_terms.specs.declared.fault.TextFault.{TextFault}
 use Rattle.pm_terms.specs.Scope.{Names, Callables, callables}
 use Rattle.pm_terms.specs.Steps.{Read, ◌>>=◌, made, sees, offset, expect, natural, digits, all_of, counted_from}
-use Rattle.pm_terms.specs.TermReading.{sum_in}
-use Rattle.pm_grammar.specs.TermGrammar.{sum}
-use Rattle.pm_grammar.proofs.Steps.{bind_ok, done, ok_is, ok_to, made_ok, guard_ok, either}
+use Rattle.pm_terms.specs.TermReading.{operand_in, sum_in}
+use Rattle.pm_grammar.specs.TermGrammar.{operand, sum}
+use Rattle.pm_grammar.proofs.Steps.{bind_ok, done, ok_is, ok_to, made_ok, guard_ok, closed_ok, either}
 use Rattle.pm_grammar.proofs.Sound.{parts}
 use Rattle.pm_dtext.specs.Ranges.{TermInRange}
+use Rattle.pm_patterns.specs.declared.pattern.Head.{Head}
+use Rattle.pm_patterns.specs.declared.pattern.ProofTerm.{ProofTerm}
 use Rattle.pm_patterns.specs.declared.pattern.Spat.{Spat}
 use Rattle.pm_patterns.specs.declared.pattern.Pat.{Pat}
 use Rattle.pm_patterns.specs.declared.pattern.Pat.TheVariants as pat
@@ -36,12 +38,12 @@ use Rattle.pm_script.specs.declared.words.PlainForm.TheVariants as plain_form
 use Rattle.pm_script.specs.declared.words.SentenceForm.{SentenceForm}
 use Rattle.pm_script.specs.declared.words.SentenceForm.TheVariants as sentence_form
 use Rattle.pm_script.specs.Words.{form_of, sentence_form_of}
-use Rattle.pm_script.specs.SentenceReading.{Deeps, ReadIn, too_deep, first_deep, plain, mapped, then_read, carried, first_of, with_tree, if_any, any_sels, any_intros, as_pattern, as_bound, as_name, in_name, into_name, asserted, allocated, alone, named_intros, intros, rename, named_revert, revert, quoted_two, combine, rewrite_by, rewrite, with_certs, linear, plain_in, term_tree, operand_tree, grouped_formula, grouped_pure, next_term, some_terms, proof_term, destruct, pose_proof, eliminate, specialize, apply, assert, exists_in, fold, write, alloc, cases, directive_in, brace_in, body_in, grouped_params, defined, predicate, statement_tree, lemma, undo, formed, no_deep, directive_by, sentence_by, sentence_in, sentence_of, read_sentence}
+use Rattle.pm_script.specs.SentenceReading.{Deeps, ReadIn, too_deep, first_deep, plain, mapped, then_read, carried, first_of, with_tree, if_any, any_sels, any_intros, as_pattern, as_bound, as_name, in_name, into_name, asserted, allocated, alone, named_intros, intros, rename, named_revert, revert, quoted_two, combine, rewrite_by, rewrite, with_certs, linear, plain_in, term_tree, operand_tree, grouped_formula, grouped_pure, next_term, some_terms, goes_on, next_operand, some_operands, terms_in, head_in, only_head, spats_in, behind_head, arguments_in, proof_term, destruct, pose_proof, eliminate, specialize, apply, assert, exists_in, fold, write, alloc, cases, directive_in, brace_in, body_in, grouped_params, defined, predicate, statement_tree, lemma, undo, formed, no_deep, directive_by, sentence_by, sentence_in, sentence_of, read_sentence}
 use Rattle.pm_script_grammar.proofs.Derived.{derived_fits}
 use Rattle.pm_script_grammar.proofs.Fitted.{no_deep_ok}
 use Rattle.pm_proof.specs.Valid.{TermFits}
 use Rattle.pm_goal.specs.declared.goal.Goal.{Goal}
-use Rattle.pm_directives.specs.Steps.{FitsGoal}
+use Rattle.pm_directives.specs.Steps.{terms_of, FitsGoal}
 use Rattle.pm_run.specs.declared.running.Running.{Running}
 use Rattle.pm_run.specs.Runs.{scope_by}
 use Rattle.pm_run.specs.Keeping.{TermsFit, FitsFirst, scope_of, IsHanded}
@@ -90,6 +92,16 @@ module _ (stop : ℕ) (preds : Callables) (names : Names) where
       let low : term_depth m.0 ≤ MAX_LEVELS = shallow (term_depth m.0) (offset stop ts) deep in
       subst (TermFits k) same (record { scoped = term_scoped k m.0 (derived_fits.terms names sum d.0 m.0 d.2); levels = omega (arith, low) })
 
+  operand_fits : (ts : List Place) (x : (Term × Deeps) × List Place) → operand_tree stop preds names ts ≡ Ok x → x.0.1 ≡ None → TermFits k x.0.0
+  unfolding operand_tree
+  operand_fits ts x e none =
+      let m = made_ok (λ t. (t, too_deep (term_depth t) (offset stop ts))) (operand_in stop names MAX_LEVELS ts) x e in
+      let same : m.0 ≡ x.0.0 = ap (λ y. y.0) m.2 in
+      let deep : too_deep (term_depth m.0) (offset stop ts) ≡ None = ap (λ y. y.1) m.2 ∙ none in
+      let d = parts.operands stop MAX_LEVELS names ts x.1 m.0 m.1 in
+      let low : term_depth m.0 ≤ MAX_LEVELS = shallow (term_depth m.0) (offset stop ts) deep in
+      subst (TermFits k) same (record { scoped = term_scoped k m.0 (derived_fits.terms names operand d.0 m.0 d.2); levels = omega (arith, low) })
+
   next_fits : (found : List Term × Deeps) (ts : List Place) (x : (List Term × Deeps) × List Place) → next_term stop preds names found ts ≡ Ok x → AllFit k found → AllFit k x.0
   unfolding next_term
   next_fits found ts x e all = λ none.
@@ -112,7 +124,75 @@ module _ (stop : ℕ) (preds : Callables) (names : Names) where
       let b = bind_ok (term_tree stop preds names ts) (λ y. carried (sees s.Comma) (next_term stop preds names) (length y.1) (first_of y.0) y.1) x e in
       more_fit (length b.0.1) (first_of b.0.0) b.0.1 x b.2 (λ none. (term_fits ts b.0 b.1 none, tt))
 
+  -- ---- operands
+
+  next_operand_fits : (found : List Term × Deeps) (ts : List Place) (x : (List Term × Deeps) × List Place) → next_operand stop preds names found ts ≡ Ok x → AllFit k found → AllFit k x.0
+  unfolding next_operand
+  next_operand_fits found ts x e all = λ none.
+      let m = made_ok (with_tree found) (operand_tree stop preds names ts) x e in
+      let b = both_none found.1 m.0.1 (ap (λ y. y.1) m.2 ∙ none) in
+      subst (AllByRecursion (TermFits k)) (ap (λ y. y.0) m.2) (all_end (TermFits k) found.0 m.0.0 (all b.0) (operand_fits ts (m.0, x.1) m.1 b.1))
+
+  more_operands_fit : (n : ℕ) (found : List Term × Deeps) (ts : List Place) (x : (List Term × Deeps) × List Place) → carried (goes_on stop preds names) (next_operand stop preds names) n found ts ≡ Ok x → AllFit k found → AllFit k x.0
+  unfolding carried
+  more_operands_fit zero found ts x e all = ok_to (λ (y : (List Term × Deeps) × List Place). AllFit k y.0) (found, ts) x e all
+  more_operands_fit (suc n) found ts x e all = either (goes_on stop preds names ts) _ _ _ e (AllFit k x.0)
+      (λ there r.
+      let b = bind_ok (next_operand stop preds names found ts) (λ y. carried (goes_on stop preds names) (next_operand stop preds names) n y.0 y.1) x r in
+      more_operands_fit n b.0.0 b.0.1 x b.2 (next_operand_fits found ts b.0 b.1 all))
+      (λ other r. ok_to (λ (y : (List Term × Deeps) × List Place). AllFit k y.0) (found, ts) x r all)
+
+  operands_fit : (ts : List Place) (x : (List Term × Deeps) × List Place) → some_operands stop preds names ts ≡ Ok x → AllFit k x.0
+  unfolding some_operands
+  operands_fit ts x e =
+      let b = bind_ok (operand_tree stop preds names ts) (λ y. carried (goes_on stop preds names) (next_operand stop preds names) (length y.1) (first_of y.0) y.1) x e in
+      more_operands_fit (length b.0.1) (first_of b.0.0) b.0.1 x b.2 (λ none. (operand_fits ts b.0 b.1 none, tt))
+
+  given_terms_fit : (ts : List Place) (x : (List Term × Deeps) × List Place) → terms_in stop preds names ts ≡ Ok x → AllFit k x.0
+  unfolding terms_in
+  given_terms_fit ts x e = either (sees s.Terms ts) _ _ _ e (AllFit k x.0)
+      (λ there r. operands_fit (drop 1 ts) x r)
+      (λ other r. ok_to (λ (y : (List Term × Deeps) × List Place). AllFit k y.0) (([], None), ts) x r (λ none. tt))
+
+  -- ---- proof terms
+
+  abbrev ProofFits : (ProofTerm × Deeps) × List Place → Type 0
+  ProofFits x = x.0.1 ≡ None → AllByRecursion (TermFits k) x.0.0.terms
+
+  behind_fits : (h : Head) (ts : List Place) (x : (ProofTerm × Deeps) × List Place) → behind_head stop preds names h ts ≡ Ok x → ProofFits x
+  unfolding behind_head
+  behind_fits h ts x e = λ none.
+      let b = bind_ok (terms_in stop preds names ts) (λ y. made (λ ps. let t : ProofTerm = record { head = h; terms = y.0.0; spats = ps } in (t, y.0.1)) (spats_in stop y.1)) x e in
+      let m = made_ok (λ ps. let t : ProofTerm = record { head = h; terms = b.0.0.0; spats = ps } in (t, b.0.0.1)) (spats_in stop b.0.1) x b.2 in
+      subst (λ (y : ProofTerm). AllByRecursion (TermFits k) y.terms) (ap (λ y. y.0) m.2) (given_terms_fit ts b.0 b.1 (ap (λ y. y.1) m.2 ∙ none))
+
+  head_alone_fits : (lemmas : Bool) (ts : List Place) (x : (ProofTerm × Deeps) × List Place) → only_head stop lemmas ts ≡ Ok x → ProofFits x
+  head_alone_fits lemmas ts x e = λ none.
+      let m = made_ok (λ (t : ProofTerm). let d : Deeps = None in (t, d)) (made (λ h. let t : ProofTerm = record { head = h; terms = []; spats = [] } in t) (head_in stop lemmas ts)) x e in
+      let n = made_ok (λ h. let t : ProofTerm = record { head = h; terms = []; spats = [] } in t) (head_in stop lemmas ts) (m.0, x.1) m.1 in
+      subst (λ (y : ProofTerm). AllByRecursion (TermFits k) y.terms) (n.2 ∙ ap (λ y. y.0) m.2) tt
+
+  proof_fits : (lemmas : Bool) (ts : List Place) (x : (ProofTerm × Deeps) × List Place) → proof_term stop preds names lemmas ts ≡ Ok x → ProofFits x
+  unfolding proof_term arguments_in
+  proof_fits lemmas ts x e = either (sees s.Open ts) _ _ _ e (ProofFits x)
+      (λ there r.
+      let c = closed_ok s.Close stop (arguments_in stop preds names lemmas (drop 1 ts)) x r in
+      let b = bind_ok (head_in stop lemmas (drop 1 ts)) (λ h. behind_head stop preds names h.0 h.1) (x.0, c.0) c.1 in
+      behind_fits b.0.0 b.0.1 (x.0, c.0) b.2)
+      (λ other r. head_alone_fits lemmas ts x r)
+
   -- ---- directives
+
+  then_proof : {B : Type 0} (f : ProofTerm → B → Directive) (lemmas : Bool) (ts : List Place) (next : List Place → Read B) (x : (Directive × Deeps) × List Place) → ((t : ProofTerm) (y : B) → terms_of (f t y) ≡ t.terms) → then_read f (proof_term stop preds names lemmas ts) next ≡ Ok x → x.0.1 ≡ None → TermsFit k x.0.0
+  then_proof f lemmas ts next x is e none =
+      let b = bind_ok (proof_term stop preds names lemmas ts) (λ y. made (λ z. (f y.0.0 z, y.0.1)) (next y.1)) x e in
+      let m = made_ok (λ z. (f b.0.0.0 z, b.0.0.1)) (next b.0.1) x b.2 in
+      subst (TermsFit k) (ap (λ y. y.0) m.2) (subst (AllByRecursion (TermFits k)) (sym (is b.0.0.0 m.0)) (proof_fits lemmas ts b.0 b.1 (ap (λ y. y.1) m.2 ∙ none)))
+
+  of_proof : (f : ProofTerm → Directive) (lemmas : Bool) (ts : List Place) (x : (Directive × Deeps) × List Place) → ((t : ProofTerm) → terms_of (f t) ≡ t.terms) → mapped f (proof_term stop preds names lemmas ts) ≡ Ok x → x.0.1 ≡ None → TermsFit k x.0.0
+  of_proof f lemmas ts x is e none =
+      let m = made_ok (λ y. (f y.0, y.1)) (proof_term stop preds names lemmas ts) x e in
+      subst (TermsFit k) (ap (λ y. y.0) m.2) (subst (AllByRecursion (TermFits k)) (sym (is m.0.0)) (proof_fits lemmas ts (m.0, x.1) m.1 (ap (λ y. y.1) m.2 ∙ none)))
 
   exists_fit : (ts : List Place) (x : (Directive × Deeps) × List Place) → exists_in stop preds names ts ≡ Ok x → x.0.1 ≡ None → TermsFit k x.0.0
   unfolding exists_in
@@ -192,10 +272,10 @@ module _ (stop : ℕ) (preds : Callables) (names : Names) where
   directive_fits (form.Plain f) ts x e none =
       let m = made_ok (λ y. (y, None)) (plain_in stop f ts) x e in
       subst IsOther (ap (λ y. y.0) m.2) (plain_other f ts (m.0, x.1) m.1)
-  directive_fits form.Destruct ts x e none = then_other directive.Destruct (proof_term stop preds names true ts) (as_bound stop) x (λ a b. tt) e
-  directive_fits form.PoseProof ts x e none = then_other directive.PoseProof (proof_term stop preds names true ts) (as_pattern stop MAX_LEVELS) x (λ a b. tt) e
+  directive_fits form.Destruct ts x e none = then_proof directive.Destruct true ts (as_bound stop) x (λ t p. refl) e none
+  directive_fits form.PoseProof ts x e none = then_proof directive.PoseProof true ts (as_pattern stop MAX_LEVELS) x (λ t p. refl) e none
   directive_fits form.Mod ts x e none = then_other directive.Mod (proof_term stop preds names true ts) _ x (λ a b. tt) e
-  directive_fits form.Specialize ts x e none = mapped_other directive.Specialize (proof_term stop preds names false ts) x (λ a. tt) e
+  directive_fits form.Specialize ts x e none = of_proof directive.Specialize false ts x (λ t. refl) e none
   directive_fits form.Apply ts x e none = mapped_other directive.Apply (proof_term stop preds names true ts) x (λ a. tt) e
   directive_fits form.Assert ts x e none = then_other (λ f (p : Spat × Pat). directive.Assert f p.0 p.1) (grouped_formula stop preds names ts) (asserted stop) x (λ a b. tt) e
   directive_fits form.Exists ts x e none = exists_fit ts x e none
@@ -303,10 +383,6 @@ handed r base text x e = go x (text_fits base r.preds.list (scope_of r) text x e
 
 -- ---- the goal that a directive is for
 
-fits_goal : (x : Directive) (g : Goal) → TermsFit (length g.vars) x → FitsGoal x g
-fits_goal (directive.Exists ts) g h = h
-fits_goal x g h = tt
-
 pub fits_first : (x : Directive) (lemma_name : List ℕ) (statement : Formula) (gs : List Goal) → TermsFit (length (scope_by (Some (record { name = lemma_name; statement = statement; goals = gs })))) x → FitsFirst x gs
 fits_first x lemma_name statement [] h = tt
-fits_first x lemma_name statement (g ∷ gs) h = fits_goal x g (subst (λ n. TermsFit n x) (length-reverse g.vars) h)
+fits_first x lemma_name statement (g ∷ gs) h = subst (λ n. TermsFit n x) (length-reverse g.vars) h

@@ -37,7 +37,7 @@ use Rattle.pm_goal.specs.Refusals.{refusal}
 use Rattle.pm_table.specs.Limits.{resting}
 use Rattle.pm_table.specs.Scopes.{IsWorkScoped}
 use Rattle.pm_sweep.specs.Standing.{IsFit, IsSoundWork}
-use Rattle.pm_directives.specs.Steps.{FitsGoal, Steps}
+use Rattle.pm_directives.specs.Steps.{terms_of, FitsGoal, Steps}
 use Rattle.pm_run.specs.Rows.{Table}
 use Rattle.pm_run.specs.declared.proof.Proof.{Proof}
 use Rattle.pm_run.specs.declared.running.Running.{Running}
@@ -115,8 +115,7 @@ IsSayable s x = Unit {0}
 
 -- the terms of a directive fit k variables
 abbrev pub TermsFit : ℕ → Directive → Type 0
-TermsFit k (directive.Exists ts) = AllByRecursion (TermFits k) ts
-TermsFit k _ = Unit {0}
+TermsFit k x = AllByRecursion (TermFits k) (terms_of x)
 
 -- those of a directive fit the goal that it is for
 abbrev pub FitsFirst : Directive → List Goal → Type 0

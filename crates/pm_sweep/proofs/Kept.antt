@@ -32,10 +32,14 @@ use Rattle.pm_sweep.specs.declared.act.Handling.{Handling}
 use Rattle.pm_sweep.specs.declared.act.Handling.TheVariants as handle
 use Rattle.pm_sweep.specs.declared.act.Changing.{Changing}
 use Rattle.pm_sweep.specs.declared.act.Changing.TheVariants as change
+use Rattle.pm_sweep.specs.declared.act.Giving.{Giving}
+use Rattle.pm_sweep.specs.declared.act.Giving.TheVariants as give
+use Rattle.pm_sweep.specs.declared.act.Framing.{Framing}
+use Rattle.pm_sweep.specs.declared.act.Framing.TheVariants as framed
 use Rattle.pm_sweep.specs.declared.act.Act.{Act}
 use Rattle.pm_sweep.specs.declared.act.Act.TheVariants as act
-use Rattle.pm_sweep.specs.Acts.{entering, handling, changing, action_of}
-use Rattle.pm_sweep.specs.Standing.{IsFit, IsHandedTo, IsHandedToChange}
+use Rattle.pm_sweep.specs.Acts.{entering, handling, giving, changing, framing, action_of}
+use Rattle.pm_sweep.specs.Standing.{IsFit, IsHandedTo, IsHandedToGive, IsHandedToChange}
 
 -- ---- limits
 
@@ -107,6 +111,7 @@ module _ (preds : Preds) where
   handling_apart handle.ToPureFresh = (actions preds no_lemmas).to_pure_fresh
   handling_apart handle.ToInt = (actions preds no_lemmas).to_int
   handling_apart handle.ToSpat = (actions preds no_lemmas).to_spat
+  handling_apart handle.Frame = (actions preds no_lemmas).frame_held
 
   changing_apart : (a : Changing) → Good Apart (changing a)
   changing_apart change.Split = (actions preds no_lemmas).split
@@ -126,10 +131,19 @@ module _ (preds : Preds) where
   changing_apart (change.RevertVar x) =
       rest_good Apart (λ v. basic.revert_var x.now v.goal) (good Apart (λ v. basic.revert_var x.now v.goal) (revert_var_apart x.now)) (actions preds no_lemmas).stay
 
+  giving_apart : (a : Giving) → Good Apart (giving a)
+  giving_apart (give.Term t) = (actions preds no_lemmas).with_term t.now tt
+
+  framing_apart : (a : Framing) → Good Apart (framing a)
+  framing_apart (framed.Named h) = (actions preds no_lemmas).frame_named h.now
+  framing_apart (framed.Member h) = (actions preds no_lemmas).frame_member h.now
+
   act_apart : (a : Act) → Good Apart (action_of a)
   act_apart (act.Enter a) = rest_good Apart (entering a) (entering_apart a) (actions preds no_lemmas).stay
   act_apart (act.Handle a) = handling_apart a
+  act_apart (act.Give a) = giving_apart a
   act_apart (act.Change a) = changing_apart a
+  act_apart (act.Frame a) = framing_apart a
 
   -- ---- scope
 
@@ -157,6 +171,7 @@ module _ (preds : Preds) where
   handling_scoped handle.ToPureFresh w h = (scoped.to_pure preds (fresh_name w.goal) w h).1
   handling_scoped handle.ToInt w h = opening_scoped table.to_int w (scoped.to_int preds w h).0
   handling_scoped handle.ToSpat w h = opening_scoped table.to_spat w (scoped.to_spat preds w h).0
+  handling_scoped handle.Frame w h = (scoped.frame_held preds w h).1
 
   changing_scoped : (a : Changing) (w : Work) → IsHandedToChange a w → InScope w → InOutcome InScope (limited (changing a w))
   changing_scoped change.Split w i h = (scoped.split preds w h).1
@@ -175,6 +190,13 @@ module _ (preds : Preds) where
   changing_scoped (change.Revert x) w i h = (scoped.revert preds x.now w h).1
   changing_scoped (change.RevertVar x) w i h = (scoped.revert_var preds x.now w h).1
 
+  giving_scoped : (a : Giving) (w : Work) → IsHandedToGive a w → InScope w → InOutcome InScope (limited (giving a w))
+  giving_scoped (give.Term t) w i h = (scoped.with_term preds t.now w i.scoped h).1
+
+  framing_scoped : (a : Framing) (w : Work) → InScope w → InOutcome InScope (limited (framing a w))
+  framing_scoped (framed.Named x) w h = (scoped.frame_named preds x.now w h).1
+  framing_scoped (framed.Member x) w h = (scoped.frame_member preds x.now w h).1
+
   -- where something is in hand, the work stays
   rest_scoped : (hs : List Held) (o q : Outcome) → InOutcome InScope (limited o) → InOutcome InScope (limited q) → InOutcome InScope (limited (where_none hs o q))
   rest_scoped [] o q h g = h
@@ -183,7 +205,9 @@ module _ (preds : Preds) where
   pub act_scoped : (a : Act) (w : Work) → IsHandedTo a w → InScope w → InOutcome InScope (limited (action_of a w))
   act_scoped (act.Enter a) w i h = rest_scoped w.held (entering a w) (one w) (entering_scoped a w h) (limited_in InScope (one w) (h, tt))
   act_scoped (act.Handle a) w i h = handling_scoped a w h
+  act_scoped (act.Give a) w i h = giving_scoped a w i h
   act_scoped (act.Change a) w i h = changing_scoped a w i h
+  act_scoped (act.Frame a) w i h = framing_scoped a w h
 
 -- ---- both
 

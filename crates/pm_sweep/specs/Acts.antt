@@ -18,6 +18,10 @@ use Rattle.pm_sweep.specs.declared.act.Handling.{Handling}
 use Rattle.pm_sweep.specs.declared.act.Handling.TheVariants as handle
 use Rattle.pm_sweep.specs.declared.act.Changing.{Changing}
 use Rattle.pm_sweep.specs.declared.act.Changing.TheVariants as change
+use Rattle.pm_sweep.specs.declared.act.Giving.{Giving}
+use Rattle.pm_sweep.specs.declared.act.Giving.TheVariants as give
+use Rattle.pm_sweep.specs.declared.act.Framing.{Framing}
+use Rattle.pm_sweep.specs.declared.act.Framing.TheVariants as framed
 use Rattle.pm_sweep.specs.declared.act.Act.{Act}
 use Rattle.pm_sweep.specs.declared.act.Act.TheVariants as act
 use Rattle.pm_sweep.specs.declared.act.Turn.{Turn}
@@ -41,6 +45,7 @@ handling (handle.ToPure h) = table.to_pure h.now
 handling handle.ToPureFresh = table.to_pure_fresh
 handling handle.ToInt = opening (true ∷ []) table.to_int
 handling handle.ToSpat = opening (true ∷ []) table.to_spat
+handling handle.Frame = terms.frame_held
 
 -- whether a part of the pattern is to come for what it leaves in hand, whether or not something was
 abbrev pub opens : Handling → Bool
@@ -65,12 +70,24 @@ changing (change.Rename h k) = on_goal (basic.rename h.now k.now)
 changing (change.Revert h) = on_goal (basic.revert h.now)
 changing (change.RevertVar x) = on_goal (basic.revert_var x.now)
 
+abbrev pub giving : Giving → Action
+giving (give.Term t) = terms.with_term t.now
+
+abbrev pub framing : Framing → Action
+framing (framed.Named h) = terms.frame_named h.now
+framing (framed.Member h) = terms.frame_member h.now
+
 abbrev pub action_of : Act → Action
 action_of (act.Enter a) = at_rest (entering a)
 action_of (act.Handle a) = handling a
+action_of (act.Give a) = giving a
 action_of (act.Change a) = changing a
+action_of (act.Frame a) = framing a
 
 -- the nodes of what is handed to it
+abbrev pub handed_to_give : Giving → ℕ
+handed_to_give (give.Term t) = term_nodes t.now
+
 abbrev pub handed_to_change : Changing → ℕ
 handed_to_change (change.Exists t) = term_nodes t.now
 handed_to_change _ = 0
@@ -78,7 +95,9 @@ handed_to_change _ = 0
 abbrev pub handed_to : Act → ℕ
 handed_to (act.Enter a) = 0
 handed_to (act.Handle a) = 0
+handed_to (act.Give a) = handed_to_give a
 handed_to (act.Change a) = handed_to_change a
+handed_to (act.Frame a) = 0
 
 -- one action, in each of the places that it is for
 abbrev pub at_place : Turn → Act → Place → Run

@@ -14,6 +14,8 @@ use Rattle.pm_table.specs.Running.{Run, ran, stopped}
 use Rattle.pm_table.specs.Scopes.{IsWorkScoped}
 use Rattle.pm_table.specs.Stepping.{Each, NamesDiffer}
 use Rattle.pm_proof.specs.Valid.{TermFits}
+use Rattle.pm_sweep.specs.declared.act.Giving.{Giving}
+use Rattle.pm_sweep.specs.declared.act.Giving.TheVariants as give
 use Rattle.pm_sweep.specs.declared.act.Changing.{Changing}
 use Rattle.pm_sweep.specs.declared.act.Changing.TheVariants as change
 use Rattle.pm_sweep.specs.declared.act.Act.{Act}
@@ -94,10 +96,15 @@ abbrev pub IsHandedToChange : Changing → Work → Type 0
 IsHandedToChange (change.Exists t) w = TermFits (length w.goal.vars) t.now
 IsHandedToChange _ w = Unit {0}
 
+abbrev pub IsHandedToGive : Giving → Work → Type 0
+IsHandedToGive (give.Term t) w = TermFits (length w.goal.vars) t.now
+
 abbrev pub IsHandedTo : Act → Work → Type 0
 IsHandedTo (act.Enter a) w = Unit {0}
 IsHandedTo (act.Handle a) w = Unit {0}
+IsHandedTo (act.Give a) w = IsHandedToGive a w
 IsHandedTo (act.Change a) w = IsHandedToChange a w
+IsHandedTo (act.Frame a) w = Unit {0}
 
 abbrev pub IsHandedToAll : Act → List Place → Type 0
 IsHandedToAll a ps = Each (λ p. IsHandedTo a (work_at p)) ps

@@ -28,6 +28,14 @@ pub enum Handling<'a> {
     ToPureFresh,
     ToInt,
     ToSpat,
+    Frame,
+}
+
+/// An action on what is last in hand of every work, for which no pattern is to come.
+#[derive(Clone, Copy)]
+pub enum Giving<'a> {
+    /// The universal is opened with the term.
+    Term(&'a Term),
 }
 
 /// An action on a goal, where nothing is in hand.
@@ -50,13 +58,24 @@ pub enum Changing<'a> {
     RevertVar(&'a Name),
 }
 
+/// An action that frames a hypothesis or fact, whatever is in hand.
+#[derive(Clone, Copy)]
+pub enum Framing<'a> {
+    /// It is refused where nothing is framed.
+    Named(&'a Name),
+    /// One of a group: it is passed over where nothing is framed.
+    Member(&'a Name),
+}
+
 /// An action on one work, with what is handed to it. To add an action, add it to its kind, to the function that performs that
 /// kind, to specs/Acts.antt, and to what is kept in proofs/Kept.antt.
 #[derive(Clone, Copy)]
 pub enum Act<'a> {
     Enter(Entering<'a>),
     Handle(Handling<'a>),
+    Give(Giving<'a>),
     Change(Changing<'a>),
+    Frame(Framing<'a>),
 }
 
 /// Where an action acts.

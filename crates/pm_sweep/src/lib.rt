@@ -9,7 +9,7 @@ mod performing;
 mod placing;
 mod sweeping;
 
-pub use act::{Act, Changing, Entering, Handling, Turn};
+pub use act::{Act, Changing, Entering, Framing, Giving, Handling, Turn};
 pub use lists::{append, with_turn_each, with_turns};
 pub use placing::{begin, stay};
 pub use sweeping::sweep;

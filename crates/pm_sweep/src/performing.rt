@@ -7,18 +7,19 @@ ghost use Rattle.pm_table.specs.Limits.{all_nodes, work_formulas, limited};
 ghost use Rattle.pm_table.specs.Introductions as introductions;
 ghost use Rattle.pm_table.specs.Patterns as table;
 ghost use Rattle.pm_action.specs.Acting.{Answers, IsHanded, StaysAs};
-ghost use Rattle.pm_sweep.specs.Acts.{action_of, entering, handling, changing, opens, handed_to, handed_to_change};
-ghost use Rattle.pm_sweep.specs.Standing.{AnswersOpened, IsHandedTo, IsHandedToChange};
+ghost use Rattle.pm_sweep.specs.Acts.{action_of, entering, handling, giving, changing, framing, opens, handed_to, handed_to_give, handed_to_change};
+ghost use Rattle.pm_sweep.specs.Standing.{AnswersOpened, IsHandedTo, IsHandedToGive, IsHandedToChange};
 
-use crate::act::{Act, Changing, Entering, Handling};
+use crate::act::{Act, Changing, Entering, Framing, Giving, Handling};
 use crate::lists::with_turns;
 use pm_action::{fresh_name, unmoved};
 use pm_basic::{clear, exfalso, exists, rename, revert, revert_var, side, split, split_at};
 use pm_closing::{assumption, done, exact, try_done};
+use pm_framing::{frame_held, frame_member, frame_named};
 use pm_goal::{StepFault, Work, copy_work};
 use pm_hand::{
     absurd_held, drop_held, lend, name_fresh, name_held, take, to_int, to_pure, to_pure_fresh,
-    to_spat,
+    to_spat, with_term,
 };
 use pm_intro::{either, intro_all, intro_all_fresh, intro_hyp, pair};
 use pm_logic::{Formula, Name};
@@ -126,6 +127,7 @@ fn handle(alloc: Global, work: &Work, act: Handling) -> Result<Parts<Place>, Ste
         Handling::ToPureFresh => to_pure_fresh(alloc, work),
         Handling::ToInt => opening(alloc, to_int(alloc, work), true),
         Handling::ToSpat => opening(alloc, to_spat(alloc, work), true),
+        Handling::Frame => frame_held(alloc, work),
     }
 }
 
@@ -179,6 +181,27 @@ fn change(alloc: Global, work: &Work, act: Changing) -> Result<Parts<Place>, Ste
     }
 }
 
+fn give(alloc: Global, work: &Work, act: Giving) -> Result<Parts<Place>, StepFault>
+    requires handed { IsHanded work.now }
+    requires some { 0 < length work.now.held }
+    requires given { IsHandedToGive act work.now }
+    ensures { Answers (all_nodes (work_formulas work.now) + handed_to_give act.entry) work.now (limited (giving act.entry work.now)) result }
+{
+    match act {
+        Giving::Term(term) => with_term(alloc, work, term),
+    }
+}
+
+fn frame(alloc: Global, work: &Work, act: Framing) -> Result<Parts<Place>, StepFault>
+    requires { IsHanded work.now }
+    ensures { Answers (all_nodes (work_formulas work.now)) work.now (limited (framing act.entry work.now)) result }
+{
+    match act {
+        Framing::Named(name) => frame_named(alloc, work, name),
+        Framing::Member(name) => frame_member(alloc, work, name),
+    }
+}
+
 /// Whether nothing is in hand.
 fn rests(work: &Work) -> bool
     ensures { MatchBool result (work.now.held ≡ []) (0 < length work.now.held) }
@@ -210,6 +233,13 @@ pub fn perform(alloc: Global, work: &Work, act: Act) -> Result<Parts<Place>, Ste
                 handle(alloc, work, act)
             }
         }
+        Act::Give(act) => {
+            if rests {
+                same(alloc, work)
+            } else {
+                give(alloc, work, act)
+            }
+        }
         Act::Change(act) => {
             if rests {
                 change(alloc, work, act)
@@ -217,5 +247,6 @@ pub fn perform(alloc: Global, work: &Work, act: Act) -> Result<Parts<Place>, Ste
                 same(alloc, work)
             }
         }
+        Act::Frame(act) => frame(alloc, work, act),
     }
 }

@@ -22,4 +22,4 @@ pub returns-in-Spat : goal.returns-in-Spat
 returns-in-Spat t c = spat_test c.args.pat.now c.in-Spat.a c.get-spatial.result.now c.is_built_pattern-in-Spat.result c.in-Spat.is c.get-spatial.ensures c.is_built_pattern-in-Spat.ensures
 
 pub returns-in_default : goal.returns-in_default
-returns-in_default t c = sym (not_built c.args.pat.now c.in_default.not-Name c.in_default.not-Fresh c.in_default.not-Drop c.in_default.not-Pair c.in_default.not-Either c.in_default.not-Absurd c.in_default.not-PureName c.in_default.not-PureFresh c.in_default.not-Int c.in_default.not-Spat)
+returns-in_default t c = sym (not_built c.args.pat.now c.in_default.not-Name c.in_default.not-Fresh c.in_default.not-Drop c.in_default.not-Frame c.in_default.not-Pair c.in_default.not-Either c.in_default.not-Absurd c.in_default.not-PureName c.in_default.not-PureFresh c.in_default.not-Int c.in_default.not-Spat)

@@ -2,7 +2,7 @@ use Rattle.std.proofs.Common.{rules}
 use Rattle.pm_logic.specs.Size.{term_nodes}
 use Rattle.pm_table.specs.Running.{act_with}
 use Rattle.pm_table.specs.Basic.{on_goal, exists}
-use Rattle.pm_directives.proofs.Variables.{rest_fit}
+use Rattle.pm_directives.proofs.Variables.{exists_keeps, rest_fit}
 use Rattle.pm_sweep.proofs.Following.{stands_after}
 use Rattle.pm_directives.proofs.Chained.{ends, goes_on}
 use Rattle.pm_directives.proofs.directives.+exists_each.Goals as goal
@@ -11,7 +11,7 @@ pub returns-in_err-next-in-len1-up : goal.returns-in_err-next-in-len1-up
 returns-in_err-next-in-len1-up t c = ends (λ x. act_with (term_nodes x) (on_goal (exists x))) c.args.standing c.args.terms.now c.term-item.result c.from_residual.result c.in_err-next-in-len1-up.field-0.0 c.in-len1-up.len_at_least c.term-item.is (search rules) c.in_err-next-in-len1-up.ensures
 
 pub exists_each-requires : goal.exists_each-requires
-exists_each-requires t c = (search rules, (stands_after c.args.standing c.in_ok-next-in-len1-up.next (act_with (term_nodes c.term-item.result) (on_goal (exists c.term-item.result)) c.args.standing.goals) c.requires.standing c.in_ok-next-in-len1-up.ensures, rest_fit c.args.terms.now c.term-item.result c.args.standing c.in_ok-next-in-len1-up.next c.in-len1-up.len_at_least c.requires.terms c.in_ok-next-in-len1-up.ensures))
+exists_each-requires t c = (search rules, (stands_after c.args.standing c.in_ok-next-in-len1-up.next (act_with (term_nodes c.term-item.result) (on_goal (exists c.term-item.result)) c.args.standing.goals) c.requires.standing c.in_ok-next-in-len1-up.ensures, rest_fit (λ x. on_goal (exists x)) exists_keeps c.args.terms.now c.term-item.result c.args.standing c.in_ok-next-in-len1-up.next c.in-len1-up.len_at_least c.requires.terms c.in_ok-next-in-len1-up.ensures))
 
 pub returns-in_ok-next-in-len1-up : goal.returns-in_ok-next-in-len1-up
 returns-in_ok-next-in-len1-up t c = goes_on (λ x. act_with (term_nodes x) (on_goal (exists x))) c.args.standing c.in_ok-next-in-len1-up.next c.args.terms.now c.term-item.result c.exists_each.result c.in-len1-up.len_at_least c.term-item.is c.in_ok-next-in-len1-up.ensures c.exists_each.ensures

@@ -81,7 +81,7 @@ returns-in_ok-opened-in-Spat t c =
     (spat_run c.args.pat.now c.in-Spat.a c.get-spatial.result.now c.args.standing.goals c.in-Spat.is c.get-spatial.ensures) c.in_ok-opened-in-Spat.ensures c.destruct-in-Spat.ensures
 
 pub unreachable-requires : goal.unreachable-requires
-unreachable-requires t c = built_never c.args.pat.now (not_built c.args.pat.now c.in_default.not-Name c.in_default.not-Fresh c.in_default.not-Drop c.in_default.not-Pair c.in_default.not-Either c.in_default.not-Absurd c.in_default.not-PureName c.in_default.not-PureFresh c.in_default.not-Int c.in_default.not-Spat) c.requires.built
+unreachable-requires t c = built_never c.args.pat.now (not_built c.args.pat.now c.in_default.not-Name c.in_default.not-Fresh c.in_default.not-Drop c.in_default.not-Frame c.in_default.not-Pair c.in_default.not-Either c.in_default.not-Absurd c.in_default.not-PureName c.in_default.not-PureFresh c.in_default.not-Int c.in_default.not-Spat) c.requires.built
 
 pub returns-in-Name : goal.returns-in-Name
 unfolding destruct
@@ -106,3 +106,7 @@ returns-in-PureName t c = at_same destruct c.args.standing c.args.pat.now _ c.tu
 pub returns-in-PureFresh : goal.returns-in-PureFresh
 unfolding destruct
 returns-in-PureFresh t c = at_same destruct c.args.standing c.args.pat.now _ c.turn-in-PureFresh.result c.in-PureFresh.is c.turn-in-PureFresh.ensures
+
+pub returns-in-Frame : goal.returns-in-Frame
+unfolding destruct
+returns-in-Frame t c = at_same destruct c.args.standing c.args.pat.now _ c.turn-in-Frame.result c.in-Frame.is c.turn-in-Frame.ensures
