@@ -1,0 +1,4 @@
+pub mod Taken
+pub mod Found
+pub mod Combined
+pub mod Updates
