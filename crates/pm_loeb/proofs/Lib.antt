@@ -1,0 +1,5 @@
+pub mod Ending
+pub mod Called
+pub mod Puttings
+pub mod Exchanged
+pub mod Calling
